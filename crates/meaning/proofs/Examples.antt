@@ -1,0 +1,135 @@
+-- The marked examples P1 to P8 of document 01, as one list and one claim. (P9 and P10 are about stored bytes.)
+use mathlib.Core.Path.{_≡_, refl}
+use mathlib.Core.Bool.{Bool, true, false}
+use mathlib.Core.Option.{Option, none, some}
+use mathlib.Core.List.{List, [], _∷_, map}
+use Prim.Native.Nat.{ℕ}
+use lib.ListN.{length}
+use Rattle.meaning.specs.Words.{Word, Words, Reading}
+use Rattle.meaning.specs.Automaton.{states, longestChain}
+use Rattle.meaning.specs.Table.{childFrom, table}
+use Rattle.meaning.specs.Readings.{readings, accepted, countAt, stateColumn, countColumn, probes}
+use Rattle.meaning.specs.Listing.{firstReading, nextReading}
+
+-- one thing that is told
+pub data Fact : Type 0 where
+  verdict : Bool → Fact
+  numbers : List ℕ → Fact
+  listed : List Reading → Fact
+  next : Option Reading → Fact
+
+-- what the definitions give, and what document 01 says
+pub record Example : Type 0 where
+  pub given : List Fact
+  pub said : List Fact
+
+-- words, states, r
+abbrev built : Words → Fact
+built X = numbers (length X ∷ length (states X) ∷ longestChain X ∷ [])
+
+-- count at the end, probes
+abbrev counted : Words → Word → Fact
+counted X t = numbers (countAt X t (length t) ∷ probes X t ∷ [])
+
+abbrev a : ℕ
+a = 97
+
+abbrev b : ℕ
+b = 98
+
+abbrev N : ℕ
+N = 65535
+
+-- source document 000, example 7
+abbrev E : Words
+E = (a ∷ a ∷ []) ∷ (a ∷ a ∷ a ∷ a ∷ b ∷ []) ∷ (a ∷ a ∷ a ∷ b ∷ a ∷ []) ∷ (a ∷ a ∷ b ∷ []) ∷ (a ∷ b ∷ []) ∷ []
+
+abbrev aaaaab : Word
+aaaaab = a ∷ a ∷ a ∷ a ∷ a ∷ b ∷ []
+
+-- words a, aa
+abbrev A : Words
+A = (a ∷ []) ∷ (a ∷ a ∷ []) ∷ []
+
+abbrev aaa : Word
+aaa = a ∷ a ∷ a ∷ []
+
+abbrev rowsOfE : List ℕ
+rowsOfE =
+    N ∷ 1 ∷ N ∷ 0 ∷ N ∷ N ∷ N
+    ∷ a ∷ 2 ∷ N ∷ 1 ∷ N ∷ 0 ∷ N
+    ∷ a ∷ 3 ∷ 9 ∷ 2 ∷ 0 ∷ 1 ∷ N
+    ∷ a ∷ 4 ∷ 8 ∷ 3 ∷ N ∷ 2 ∷ 2
+    ∷ a ∷ 5 ∷ 6 ∷ 4 ∷ N ∷ 3 ∷ 2
+    ∷ b ∷ N ∷ N ∷ 5 ∷ 1 ∷ 6 ∷ 8
+    ∷ b ∷ 7 ∷ N ∷ 4 ∷ N ∷ 8 ∷ 8
+    ∷ a ∷ N ∷ N ∷ 5 ∷ 2 ∷ 1 ∷ N
+    ∷ b ∷ N ∷ N ∷ 3 ∷ 3 ∷ 9 ∷ 9
+    ∷ b ∷ N ∷ N ∷ 2 ∷ 4 ∷ 0 ∷ N
+    ∷ []
+
+-- P1 E builds; its rows
+abbrev p1 : Example
+p1 = record {
+  given = built E ∷ numbers (table E) ∷ [];
+  said = numbers (5 ∷ 10 ∷ 3 ∷ []) ∷ numbers rowsOfE ∷ [];
+}
+
+-- P2 E, aaaaab: states, counts, probes
+abbrev p2 : Example
+p2 = record {
+  given = numbers (stateColumn E aaaaab) ∷ numbers (countColumn E aaaaab) ∷ numbers (probes E aaaaab ∷ []) ∷ [];
+  said = numbers (0 ∷ 1 ∷ 2 ∷ 3 ∷ 4 ∷ 4 ∷ 5 ∷ []) ∷ numbers (1 ∷ 0 ∷ 1 ∷ 0 ∷ 1 ∷ 0 ∷ 1 ∷ []) ∷ numbers (7 ∷ []) ∷ [];
+}
+
+-- P3 E, aaaaab: the only reading
+abbrev p3 : Example
+p3 = record { given = listed (readings E aaaaab) ∷ []; said = listed ((0 ∷ 0 ∷ 4 ∷ []) ∷ []) ∷ [] }
+
+-- P4 E, empty text: accepted, one reading of no words
+abbrev p4 : Example
+p4 = record {
+  given = verdict (accepted E []) ∷ listed (readings E []) ∷ [];
+  said = verdict true ∷ listed ([] ∷ []) ∷ [];
+}
+
+-- P5 words a, aa; text aaa: count, probes
+abbrev p5 : Example
+p5 = record { given = counted A aaa ∷ []; said = numbers (3 ∷ 5 ∷ []) ∷ [] }
+
+-- P6 the same: the readings, one after the other, then End
+abbrev p6 : Example
+p6 = record {
+  given =
+      listed (readings A aaa)
+      ∷ next (some (firstReading A aaa 3))
+      ∷ next (nextReading A aaa (0 ∷ 1 ∷ []))
+      ∷ next (nextReading A aaa (1 ∷ 0 ∷ []))
+      ∷ next (nextReading A aaa (0 ∷ 0 ∷ 0 ∷ []))
+      ∷ [];
+  said =
+      listed ((0 ∷ 1 ∷ []) ∷ (1 ∷ 0 ∷ []) ∷ (0 ∷ 0 ∷ 0 ∷ []) ∷ [])
+      ∷ next (some (0 ∷ 1 ∷ []))
+      ∷ next (some (1 ∷ 0 ∷ []))
+      ∷ next (some (0 ∷ 0 ∷ 0 ∷ []))
+      ∷ next none
+      ∷ [];
+}
+
+-- P7 empty dictionary, text a
+abbrev p7 : Example
+p7 = record {
+  given = verdict (accepted [] (a ∷ [])) ∷ counted [] (a ∷ []) ∷ [];
+  said = verdict false ∷ numbers (0 ∷ 0 ∷ []) ∷ [];
+}
+
+-- P8 empty dictionary
+abbrev p8 : Example
+p8 = record { given = built [] ∷ []; said = numbers (0 ∷ 1 ∷ 0 ∷ []) ∷ [] }
+
+abbrev pub examples : List Example
+examples = p1 ∷ p2 ∷ p3 ∷ p4 ∷ p5 ∷ p6 ∷ p7 ∷ p8 ∷ []
+
+pub examples-hold : map (λ e. e .given) examples ≡ map (λ e. e .said) examples
+unfolding childFrom
+examples-hold = refl

@@ -1,0 +1,15 @@
+pub mod Lists
+pub mod Find
+pub mod States
+pub mod Children
+pub mod Suffixes
+pub mod Paper
+pub mod Chains
+pub mod Rows
+pub mod Readings
+pub mod Order
+pub mod Counts
+pub mod Columns
+pub mod First
+pub mod Next
+pub mod Examples
