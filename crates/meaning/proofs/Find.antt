@@ -7,7 +7,8 @@ use mathlib.Core.List.{[], _∷_, _++_, List·Memᴰ}
 use Prim.Native.Nat.{ℕ, zero, suc, _≤_, _<_}
 use native.Mathlib.Decide.{decLe, decLt}
 use native.Mathlib.Omega.{arith}
-use lib.Dec.{T, eqb, eqb→eq, eqb-refl}
+use lib.Dec.{eqb}
+use borrow.Author.Tests.{eqb-true, eq-eqb}
 use lib.ListN.{length}
 use Rattle.meaning.specs.Words.{Word, Words, snoc, same, later, find, has, word}
 use Rattle.meaning.specs.Plain.{Has, Distinct, Each}
@@ -48,28 +49,10 @@ some-with {o} f e = go (ask o)
     go (got m q) = (m, q)
     go (lacks q) = none-or-some (f q) e
 
--- numbers that are tested equal
-pub eqb-true : (a b : ℕ) → eqb a b ≡ true → a ≡ b
-eqb-true a b e = eqb→eq a b (rw e tt)
-
-pub eqb-same : (a : ℕ) → eqb a a ≡ true
-eqb-same a = go (eqb a a) (eqb-refl a)
-  where
-    go : (b : Bool) → T b → b ≡ true
-    go true h = refl
-    go false h = absurd h
-
-pub eqb-apart : (a b : ℕ) → a ≢ b → eqb a b ≡ false
-eqb-apart a b d = go (test (eqb a b))
-  where
-    go : Tested (eqb a b) → eqb a b ≡ false
-    go (pass e) = absurd (d (eqb-true a b e))
-    go (fail e) = e
-
 -- words that are tested the same
 pub same-refl : (u : Word) → same u u ≡ true
 same-refl [] = refl
-same-refl (a ∷ u) = rw (eqb-same a) (same-refl u)
+same-refl (a ∷ u) = rw (eq-eqb a a refl) (same-refl u)
 
 pub same-true : (u v : Word) → same u v ≡ true → u ≡ v
 same-true [] [] e = refl
@@ -195,12 +178,15 @@ has-member Y u = (
   λ m. let (n, l, e) = index-of [] m in rw e at (has-word Y n l),
 )
 
-pub has-true : {Y : Words} {u : Word} → has Y u ≡ true → Has Y u
-has-true {Y} {u} e = go (ask (find Y u))
+pub has-true : (Y : Words) (u : Word) → has Y u ≡ true → Has Y u
+has-true Y u e = go (ask (find Y u))
   where
     go : Asked (find Y u) → Has Y u
     go (got n f) = record { place = n; found = f }
     go (lacks f) = let z : _≡_ {A = ℕ} 0 1 = cc (rw f at e) in absurd (omega arith)
+
+pub has-false : (Y : Words) (u : Word) → has Y u ≡ false → find Y u ≡ none
+has-false Y u e = none-unless _ (λ n f. let z : _≡_ {A = ℕ} 0 1 = cc (rw f at e) in omega arith)
 
 -- what holds of each word holds of what is found
 pub each-has : (P : Word → Type 0) (Y : Words) → Each P Y → (u : Word) → Has Y u → P u

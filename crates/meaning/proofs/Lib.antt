@@ -12,4 +12,3 @@ pub mod Counts
 pub mod Columns
 pub mod First
 pub mod Next
-pub mod Examples

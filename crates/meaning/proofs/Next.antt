@@ -5,6 +5,7 @@ use mathlib.Core.Option.{Option, none, some}
 use mathlib.Core.List.{List, [], _∷_, _++_, map, head?, append-nil, append-assoc, nil≢cons, head-eq-of-cons-eq, tail-eq-of-cons-eq, List·Memᴰ, List·Memᴰ·head, List·Memᴰ·tail, Memᴰ·append-right}
 use Prim.Native.Nat.{ℕ, zero, suc, _+_, _-_, _≤_, _<_}
 use native.Mathlib.Omega.{arith}
+use borrow.Author.Tests.{eq-eqb, ne-eqb}
 use lib.ListN.{length, getD, getElem?, take, drop, length-append}
 use lib.Seq.{split-at, length-take-le}
 use Rattle.meaning.specs.Words.{Word, Words, Reading, snoc, word, size, joined}
@@ -13,17 +14,16 @@ use Rattle.meaning.specs.Readings.{endingWith, readingsTo, readings}
 use Rattle.meaning.specs.Listing.{behind, changed, keeping, nextFrom, nextReading}
 use Rattle.meaning.specs.Plain.{Dictionary, Ordered, Shorter, IsReading}
 use Rattle.meaning.proofs.Lists.{strong-induction, index-of, split-append, split-map, head-drop}
-use Rattle.meaning.proofs.Find.{eqb-same, eqb-apart}
 use Rattle.meaning.proofs.Chains.{chain-fits, chain-falls}
 use Rattle.meaning.proofs.Readings.{readingsTo-suc, readingsTo-sound, readings-are}
 use Rattle.meaning.proofs.First.{head-endingWith}
 
 -- the two cases of `behind`
 pub behind-here : (n : ℕ) (c : List ℕ) → behind n (n ∷ c) ≡ c
-behind-here n c = rw (eqb-same n)
+behind-here n c = rw (eq-eqb n n refl)
 
 pub behind-past : (n m : ℕ) (c : List ℕ) → (m ≡ n → ⊥) → behind n (m ∷ c) ≡ behind n c
-behind-past n m c d = rw (eqb-apart m n d)
+behind-past n m c d = rw (ne-eqb m n d)
 
 -- a reading ns with bs behind it in the list of those that end with one of the words c: by its last word
 pub record Located (X : Words) (b : ℕ → List Reading) (i : ℕ) (c : List ℕ) (ns : Reading) (bs : List Reading) : Type 0 where

@@ -6,14 +6,17 @@ use mathlib.Core.Logic.{⊎-elim, _↔_}
 use Prim.Native.Nat.{ℕ, zero, suc, _-_, _≤_, _<_}
 use native.Mathlib.Nat.{not-suc-le-zero}
 use native.Mathlib.Omega.{arith}
+use borrow.Author.Tests.{ltb-true, lt-ltb}
+use lib.Dec.{ltb}
 use lib.ListN.{length, take, length-take}
 use lib.Seq.{take-length}
 use Rattle.meaning.specs.Words.{Word, Words, Reading, snoc, word, size, joined}
 use Rattle.meaning.specs.Automaton.{chain}
 use Rattle.meaning.specs.Readings.{endingWith, readingsIn, readingsTo, readings, isNonempty, accepted}
+use Rattle.meaning.specs.Listing.{allBelow, isReading}
 use Rattle.meaning.specs.Plain.{Dictionary, EndsWith, IsReading, Star}
 use Rattle.meaning.proofs.Lists.{mem-map, map-mem, Snoc, nothing, last, snoc-view, strong-induction}
-use Rattle.meaning.proofs.Find.{find-some, has-word}
+use Rattle.meaning.proofs.Find.{Tested, pass, fail, test, same-refl, same-true, find-some, has-word}
 use Rattle.meaning.proofs.Chains.{chain-ends, chain-fits, chain-splits, chain-is}
 
 -- the bound on the number of words does not matter once it is large enough
@@ -110,6 +113,35 @@ isReading-last X D t i h ms n = (forth, back)
 
 pub no-words : (X : Words) → IsReading X [] []
 no-words X = record { below = λ n m. absurd (List·Memᴰ·not-nil m); joins = refl }
+
+-- the test of a word sequence says just that
+allBelow-is : (c : ℕ) (ns : List ℕ) → (allBelow c ns ≡ true) ↔ ((n : ℕ) → List·Memᴰ n ns → n < c)
+allBelow-is c [] = (λ e n m. absurd (List·Memᴰ·not-nil m), λ h. refl)
+allBelow-is c (k ∷ ns) = go (allBelow-is c ns) (test (ltb k c))
+  where
+    go : (allBelow c ns ≡ true) ↔ ((n : ℕ) → List·Memᴰ n ns → n < c) → Tested (ltb k c)
+        → (allBelow c (k ∷ ns) ≡ true) ↔ ((n : ℕ) → List·Memᴰ n (k ∷ ns) → n < c)
+    go (f, g) (pass t) = (
+      λ e n m. ⊎-elim (λ q. subst (λ j. j < c) (sym q) (ltb-true k c t)) (f (rw t at e) n) (List·Memᴰ·cases-cons m),
+      λ h. rw t (g (λ n m. h n (List·Memᴰ·tail m))),
+    )
+    go (f, g) (fail t) = (
+      λ e. absurd (false≢true (rw t at e)),
+      λ h. absurd (false≢true (sym t ∙ lt-ltb k c (h k (List·Memᴰ·head refl)))),
+    )
+
+pub isReading-is : (X : Words) (t : Word) (ns : Reading) → (isReading X t ns ≡ true) ↔ IsReading X t ns
+isReading-is X t ns = go (test (allBelow (length X) ns))
+  where
+    go : Tested (allBelow (length X) ns) → (isReading X t ns ≡ true) ↔ IsReading X t ns
+    go (pass e) = (
+      λ q. record { below = allBelow-is (length X) ns .0 e; joins = same-true (joined X ns) t (rw e at q) },
+      λ r. rw e (rw (r .joins) (same-refl t)),
+    )
+    go (fail e) = (
+      λ q. absurd (false≢true (rw e at q)),
+      λ r. absurd (false≢true (sym e ∙ allBelow-is (length X) ns .1 (r .below))),
+    )
 
 -- every element of the list is a reading
 pub readingsTo-sound : (X : Words) (t : Word) (i : ℕ) → i ≤ length t → (ns : Reading) → List·Memᴰ ns (readingsTo X t i)

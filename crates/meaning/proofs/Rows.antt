@@ -6,9 +6,13 @@ use Prim.Native.Nat.{ℕ, zero, suc, _+_, _*_, _/_, _%_, _≤_, _<_}
 use native.Mathlib.Omega.{arith}
 use lib.ListN.{length, getD, take, length-append, List·getD-append}
 use lib.Seq.{getD-take, getD-append-add, length-take-le, ext-getD}
-use Rattle.meaning.specs.Numbers.{absent}
+use Rattle.meaning.specs.Numbers.{letterValues, mostWords, mostStates, absent}
 use Rattle.meaning.specs.Words.{Word, Words, word}
 use Rattle.meaning.specs.Table.{stored, width, row, rows}
+
+-- no letter, word or state has the number that stands for none
+pub absent-free : (letterValues ≤ absent) × (mostWords ≤ absent) × (mostStates ≤ absent)
+absent-free = (omega arith, omega arith, omega arith)
 
 -- a stored number: that for none is none's alone where every other is below it
 pub stored-some : (o : Option ℕ) {c : ℕ} → c ≡ stored o → (c ≡ absent → ⊥) → o ≡ some c

@@ -139,6 +139,10 @@ prefixes-each P p (a ∷ u) f zero l = f (snoc p a) (record { after = u; joins =
 prefixes-each P p (a ∷ u) f (suc n) l =
     prefixes-each P (snoc p a) u (λ v h. f v (record { after = h .after; joins = h .joins ∙ append-snoc p a u })) n (omega arith)
 
+pub total-append : (X Y : Words) → total (X ++ Y) ≡ total X + total Y
+total-append [] Y = omega arith
+total-append (w ∷ X) Y = omega (arith, total-append X Y)
+
 pub appearing-length : (X : Words) → length (appearing X) ≡ total X
 appearing-length [] = refl
 appearing-length (w ∷ ws) = omega (arith, length-append (prefixes [] w) (appearing ws), prefixes-length [] w, appearing-length ws)
@@ -377,11 +381,11 @@ allowed-bounded X d = record {
   trie = states-trie X;
   bytes = bytes;
   short = λ p m e. each-has (λ u. length u ≤ longestWord) (states X) short p (record { place = m; found = e });
-  few = omega (arith, states-length X, d .small);
+  few = omega (arith, states-length X, d .storable .small);
 }
   where
     short : Each (λ u. length u ≤ longestWord) (states X)
-    short = states-each (λ u. length u ≤ longestWord) X (omega arith) (λ n l v p. omega (arith, prefix-short p, d .short n l))
+    short = states-each (λ u. length u ≤ longestWord) X (omega arith) (λ n l v p. omega (arith, prefix-short p, d .storable .short n l))
 
     letters : Each (LettersBelow letterValues) (states X)
     letters =
@@ -394,4 +398,4 @@ allowed-bounded X d = record {
         rw (getD-append-seam p a [] 0) at h
 
 pub allowed-words : (X : Words) → Allowed X → WordsIn X (states X)
-allowed-words X d = record { nonempty = no-empty X (d .dictionary .nonempty); within = states-within X; few = d .few }
+allowed-words X d = record { nonempty = no-empty X (d .storable .dictionary .nonempty); within = states-within X; few = d .storable .few }

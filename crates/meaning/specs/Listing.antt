@@ -1,12 +1,21 @@
--- The first reading of a text, and the one after a given reading, word by word.
+-- Whether a word sequence is a reading; the first reading of a text, and the one after a given reading, word by word.
+use mathlib.Core.Bool.{Bool, true, false}
 use mathlib.Core.Option.{Option, none, some}
 use mathlib.Core.List.{List, [], _∷_, _++_}
 use Prim.Native.Nat.{ℕ, zero, suc, _+_, _-_}
-use lib.Dec.{eqb}
-use lib.ListN.{take}
-use Rattle.meaning.specs.Words.{if_then_else_, Word, Words, Reading, snoc, size}
+use lib.Dec.{eqb, ltb}
+use lib.ListN.{length, take}
+use Rattle.meaning.specs.Words.{if_then_else_, Word, Words, Reading, snoc, same, size, joined}
 use Rattle.meaning.specs.Automaton.{chain}
 use Rattle.meaning.specs.Readings.{readable}
+
+abbrev pub allBelow : ℕ → List ℕ → Bool
+allBelow c [] = true
+allBelow c (n ∷ ns) = if ltb n c then allBelow c ns else false
+
+-- the given word sequence is a reading of the text
+abbrev pub isReading : Words → Word → Reading → Bool
+isReading X t ns = if allBelow (length X) ns then same (joined X ns) t else false
 
 -- the first of the words ns, all of which end at position i, that has a reading before it
 abbrev pub pick : Words → Word → ℕ → List ℕ → Option ℕ

@@ -31,16 +31,20 @@ pub record Dictionary (X : Words) : Type 0 where
   pub nonempty : (n : ℕ) → n < length X → 1 ≤ size X n
   pub distinct : Distinct X
 
-abbrev pub LettersBelow : ℕ → Word → Type 0
-LettersBelow c u = (i : ℕ) → i < length u → getD u i 0 < c
-
 -- .. within the limits
-pub record Allowed (X : Words) : Type 0 where
+pub record Storable (X : Words) : Type 0 where
   pub dictionary : Dictionary X
-  pub letters : Each (LettersBelow letterValues) X
   pub short : Each (λ w. length w ≤ longestWord) X
   pub few : length X ≤ mostWords
   pub small : total X ≤ mostLetters
+
+abbrev pub LettersBelow : ℕ → Word → Type 0
+LettersBelow c u = (i : ℕ) → i < length u → getD u i 0 < c
+
+-- .. of bytes
+pub record Allowed (X : Words) : Type 0 where
+  pub storable : Storable X
+  pub letters : Each (LettersBelow letterValues) X
 
 pub record Prefix (v u : Word) : Type 0 where
   pub after : Word

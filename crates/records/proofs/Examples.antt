@@ -1,15 +1,21 @@
--- The marked examples P1 to P8 of document 01, as one list and one claim. (P9 and P10 are about stored bytes.)
+-- The marked examples P1 to P10 of document 01, as one list and one claim; and its example of a book.
 use mathlib.Core.Path.{_≡_, refl}
 use mathlib.Core.Bool.{Bool, true, false}
 use mathlib.Core.Option.{Option, none, some}
-use mathlib.Core.List.{List, [], _∷_, map}
+use mathlib.Core.List.{List, [], _∷_, _++_, map}
 use Prim.Native.Nat.{ℕ}
 use lib.ListN.{length}
 use Rattle.meaning.specs.Words.{Word, Words, Reading}
 use Rattle.meaning.specs.Automaton.{states, longestChain}
 use Rattle.meaning.specs.Table.{childFrom, table}
 use Rattle.meaning.specs.Readings.{readings, accepted, countAt, stateColumn, countColumn, probes}
 use Rattle.meaning.specs.Listing.{firstReading, nextReading}
+use Rattle.records.specs.Letters.{identity}
+use Rattle.records.specs.Record.{blockMark}
+use Rattle.records.specs.Run.{run, dictionary}
+use Rattle.records.specs.Book.{book, blocks, opened}
+use Rattle.records.specs.Told.{Told, refusal, runTells, bookTells}
+use Rattle.records.specs.Stored.{wordRecord, wordRecords}
 
 -- one thing that is told
 pub data Fact : Type 0 where
@@ -17,6 +23,7 @@ pub data Fact : Type 0 where
   numbers : List ℕ → Fact
   listed : List Reading → Fact
   next : Option Reading → Fact
+  told : Told → Fact
 
 -- what the definitions give, and what document 01 says
 pub record Example : Type 0 where
@@ -127,9 +134,45 @@ p7 = record {
 abbrev p8 : Example
 p8 = record { given = built [] ∷ []; said = numbers (0 ∷ 1 ∷ 0 ∷ []) ∷ [] }
 
+-- P9 a word record of length 0
+abbrev p9 : Example
+p9 = record { given = told (runTells (dictionary identity (wordRecord []))) ∷ []; said = told (refusal 2 0) ∷ [] }
+
+-- P10 word a twice
+abbrev p10 : Example
+p10 = record {
+  given = told (runTells (dictionary identity (wordRecords ((a ∷ []) ∷ (a ∷ []) ∷ [])))) ∷ [];
+  said = told (refusal 6 1) ∷ [];
+}
+
 abbrev pub examples : List Example
-examples = p1 ∷ p2 ∷ p3 ∷ p4 ∷ p5 ∷ p6 ∷ p7 ∷ p8 ∷ []
+examples = p1 ∷ p2 ∷ p3 ∷ p4 ∷ p5 ∷ p6 ∷ p7 ∷ p8 ∷ p9 ∷ p10 ∷ []
 
 pub examples-hold : map (λ e. e .given) examples ≡ map (λ e. e .said) examples
-unfolding childFrom
+unfolding childFrom run identity
 examples-hold = refl
+
+-- the book of document 01's program
+abbrev blockRecord : Word → List ℕ
+blockRecord t = blockMark ++ length t ∷ 0 ∷ t
+
+abbrev blockRecords : Words → List ℕ
+blockRecords [] = []
+blockRecords (t ∷ T) = blockRecord t ++ blockRecords T
+
+abbrev texts : Words
+texts = aaaaab ∷ [] ∷ aaa ∷ (b ∷ a ∷ []) ∷ []
+
+pub sample-book : book identity (wordRecords E ++ blockRecords texts) ≡ opened E 32 texts
+unfolding run blocks identity
+sample-book = refl
+
+-- with a word record where a block is due
+pub late-word : bookTells (book identity (wordRecords E ++ blockRecord aaa ++ wordRecord aaa)) ≡ refusal 15 6
+unfolding run blocks identity
+late-word = refl
+
+-- a block mark where a dictionary by itself has a word due
+pub no-block-here : runTells (dictionary identity (wordRecords E ++ blockRecord aaa)) ≡ refusal 1 5
+unfolding run identity
+no-block-here = refl

@@ -1,0 +1,13 @@
+pub mod Cases
+pub mod Bytes
+pub mod Records
+pub mod Run
+pub mod Standing
+pub mod Walking
+pub mod Blocks
+pub mod Accepted
+pub mod Stored
+pub mod Determined
+pub mod Books
+pub mod Enough
+pub mod Examples

@@ -1,0 +1,49 @@
+-- A book: its words, then its blocks, or the first refusal.
+use mathlib.Core.List.{List, []}
+use Prim.Native.Nat.{ℕ, zero, suc, _+_}
+use lib.ListN.{length}
+use Rattle.meaning.specs.Words.{Words, snoc}
+use Rattle.records.specs.Record.{blockAt, textAt}
+use Rattle.records.specs.Run.{Run, ran, refused, bookWords}
+use Rattle.records.specs.declared.record.BlockRecord.{BlockRecord}
+use Rattle.records.specs.declared.record.BlockRecord.the-variants.{End, Text, Bad}
+
+-- the blocks' texts; or a refusal's number and the number of blocks before it
+pub data Blocks : Type 0 where
+  texts : Words → Blocks
+  bad : ℕ → ℕ → Blocks
+
+abbrev pub onBlock : Words → (ℕ → Blocks) → BlockRecord → Blocks
+onBlock T more End = texts T
+onBlock T more (Text n) = more n
+onBlock T more (Bad number) = bad number (length T)
+
+-- the blocks from an offset on, after the texts T; the first number bounds the records that are read
+abbrev pub blocksFrom : List ℕ → ℕ → Words → ℕ → Blocks
+blocksFrom b zero T at = texts T
+blocksFrom b (suc f) T at = onBlock T (λ n. blocksFrom b f (snoc T (textAt b at n)) (at + 4 + n)) (blockAt b at)
+
+-- all blocks from an offset on: there are no more than bytes
+unfoldable pub blocks : List ℕ → ℕ → Blocks
+blocks b at = blocksFrom b (suc (length b)) [] at
+
+-- the words, the offset of the first block record, the blocks' texts; or a refusal's number and place
+pub data Opened : Type 0 where
+  opened : Words → ℕ → Words → Opened
+  shut : ℕ → ℕ → Opened
+
+abbrev pub withWords : Words → ℕ → Blocks → Opened
+withWords X at (texts T) = opened X at T
+withWords X at (bad number n) = shut number (length X + n)
+
+abbrev pub withBlocks : List ℕ → Run → Opened
+withBlocks b (ran X at) = withWords X at (blocks b at)
+withBlocks b (refused number place) = shut number place
+
+abbrev pub book : List ℕ → List ℕ → Opened
+book m b = withBlocks b (bookWords m b)
+
+-- none where the book is refused
+abbrev pub textsOf : Opened → Words
+textsOf (opened X at T) = T
+textsOf (shut number place) = []

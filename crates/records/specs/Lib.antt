@@ -1,0 +1,6 @@
+pub mod Letters
+pub mod Record
+pub mod Run
+pub mod Book
+pub mod Told
+pub mod Stored
