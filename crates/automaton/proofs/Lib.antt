@@ -1,0 +1,16 @@
+pub mod Cells
+pub mod Walk
+pub mod Column
+pub mod Climb
+pub mod NewState
+pub mod Grow
+pub mod Inserting
+pub mod Queue
+pub mod Linking
+pub mod Chain
+pub mod RootIndex
+pub mod Copied
+pub mod Whole
+pub mod Planting
+pub mod Finishing
+pub mod Lent

@@ -1,0 +1,7 @@
+pub mod Layout
+pub mod Tree
+pub mod Insertion
+pub mod Filling
+pub mod Queue
+pub mod Building
+pub mod Lending

@@ -1,0 +1,73 @@
+// The column of borders, filled breadth first: a state's border is found from those of shorter states.
+ghost use mathlib.Core.Path.{_≡_};
+ghost use Rattle.meaning.specs.Words.{Words};
+ghost use Rattle.meaning.specs.Table.{borderField};
+ghost use Rattle.automaton.specs.Tree.{borderOf};
+ghost use Rattle.automaton.specs.Filling.{Filled};
+ghost use Rattle.automaton.specs.Queue.{Unbordered, Settling, Settles, Taking, Taken};
+use crate::layout::NONE;
+use crate::layout::border;
+use crate::layout::first_child;
+use crate::layout::letter;
+use crate::layout::next_sibling;
+use crate::layout::set_border;
+use crate::layout::wide;
+use crate::stepping::child_border;
+
+// The border of p's child c, which joins the queue of `tail` states. Tells how many they are then.
+fn settle(
+    table: &mut [u16],
+    index: &[u16; 256],
+    queue: &mut [u16; 2048],
+    tail: usize,
+    p: usize,
+    c: usize,
+) -> usize
+    requires { ⌜ ((X S : Words) × Settling X S (now table) (now index) (now queue) tail p c) ⌝ }
+    ensures { λ r. ⌜ ((X S : Words) → Settling X S (now (table .entry)) (now (index .entry)) (now (queue .entry)) tail p c → Settles X S (now (table .entry)) (now (table .exit)) (now (index .entry)) (now (queue .entry)) (now (queue .exit)) tail r p c) ⌝ }
+{
+    if border(table, c) != NONE {
+        return tail;
+    }
+    let b = child_border(table, index, p, letter(table, c));
+    set_border(table, c, b);
+    queue[tail] = c as u16;
+    tail + 1
+}
+
+// The borders of the children of p, which join the queue.
+fn take_out(
+    table: &mut [u16],
+    index: &[u16; 256],
+    queue: &mut [u16; 2048],
+    end: usize,
+    p: usize,
+) -> usize
+    requires { ⌜ ((X S : Words) × Taking X S (now table) (now index) (now queue) end p) ⌝ }
+    ensures { λ r. ⌜ ((X S : Words) → Taking X S (now (table .entry)) (now (index .entry)) (now (queue .entry)) end p → Taken X S (now (table .entry)) (now (table .exit)) (now (index .entry)) (now (queue .entry)) (now (queue .exit)) end r p) ⌝ }
+{
+    let mut tail = end;
+    let mut c = first_child(table, p);
+    while c != NONE {
+        tail = settle(table, index, queue, tail, p, c);
+        c = next_sibling(table, c);
+    }
+    tail
+}
+
+// The borders of all states, each once: the queue begins with the root, and depths rise along it. At most 2,048 states are taken
+// out; for each the siblings below its own letter are passed at its border, and those borders are climbed that a text of its word
+// would climb.
+pub fn fill_borders(table: &mut [u16], index: &[u16; 256])
+    requires { ⌜ ((X S : Words) × Unbordered X S (now table) (now index)) ⌝ }
+    ensures { λ _. ⌜ ((X S : Words) → Unbordered X S (now (table .entry)) (now (index .entry)) → Filled S borderField (borderOf S) (now (table .entry)) (now (table .exit))) ⌝ }
+{
+    let mut queue = [0u16; 2048];
+    let mut head = 0;
+    let mut tail = 1;
+    while head < tail {
+        let p = wide(queue[head]);
+        tail = take_out(table, index, &mut queue, tail, p);
+        head += 1;
+    }
+}

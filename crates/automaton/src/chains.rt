@@ -1,0 +1,52 @@
+// The chain of a state: the words that end there, longest first, from link to link.
+ghost use mathlib.Core.Path.{_≡_};
+ghost use lib.ListN.{length};
+ghost use Rattle.meaning.specs.Words.{Words, word as wordOf};
+ghost use Rattle.meaning.specs.Automaton.{nearest, chain, longestOf};
+ghost use Rattle.meaning.specs.Table.{stored};
+ghost use Rattle.automaton.specs.Filling.{LinkedAt, Linked};
+use crate::layout::NONE;
+use crate::layout::link;
+use crate::layout::word;
+
+// The state of the longest word that ends at s, or none. From there the links lead on.
+pub fn first_word(table: &[u16], s: usize) -> usize
+    requires { ⌜ ((X S : Words) × LinkedAt X S (now table) s) ⌝ }
+    ensures { λ r. ⌜ ((X S : Words) → LinkedAt X S (now (table .entry)) s → r ≡ stored (nearest S X (wordOf S s))) ⌝ }
+{
+    if word(table, s) != NONE {
+        return s;
+    }
+    link(table, s)
+}
+
+// How many words end at s, at most 64.
+fn chain_length(table: &[u16], s: usize) -> usize
+    requires { ⌜ ((X S : Words) × LinkedAt X S (now table) s) ⌝ }
+    ensures { λ r. ⌜ ((X S : Words) → LinkedAt X S (now (table .entry)) s → r ≡ length (chain X (wordOf S s))) ⌝ }
+{
+    let mut k = 0;
+    let mut v = first_word(table, s);
+    while v != NONE {
+        k += 1;
+        v = link(table, v);
+    }
+    k
+}
+
+// The greatest number of words that end at one of the n states.
+pub fn longest_chain(table: &[u16], n: usize) -> usize
+    requires { ⌜ ((X S : Words) × Linked X S (now table) n) ⌝ }
+    ensures { λ r. ⌜ ((X S : Words) → Linked X S (now (table .entry)) n → r ≡ longestOf X S) ⌝ }
+{
+    let mut r = 0;
+    let mut s = 0;
+    while s < n {
+        let k = chain_length(table, s);
+        if r < k {
+            r = k;
+        }
+        s += 1;
+    }
+    r
+}
