@@ -15,6 +15,7 @@ use Rattle.meaning.proofs.States.{Bounded}
 use Rattle.meaning.proofs.Suffixes.{border-exists, border-step, border-first, step-child, step-border, step-root, proper-inside, proper-shorter}
 use Rattle.meaning.proofs.Rows.{stored-none, stored-some}
 use Rattle.automaton.specs.Layout.{fieldAt}
+use Rattle.automaton.specs.Tree.{Right, Tree, borderOf}
 use Rattle.automaton.specs.Filling.{rootStep, Bordered}
 use Rattle.automaton.proofs.Walk.{found-small}
 
@@ -29,33 +30,47 @@ pub root-only : {S : Words} → Bounded S → {s : ℕ} → s < length S → wor
 root-only {S} σ {s} l e = some-inj (sym (σ .trie .once s l) ∙ ap (find S) e ∙ σ .trie .root)
 
 -- w is the border of state v
-pub record Up (X S : Words) (t index : List ℕ) (v w : ℕ) : Type 0 where
+pub record Higher (S : Words) (t : List ℕ) (v w : ℕ) : Type 0 where
   pub is : border S (word S v) ≡ some w
-  pub bordered : Bordered X S t index w
+  pub inside : w < length S
+  pub shorter : length (word S w) < length (word S v)
   pub less : fieldAt t w depthField < fieldAt t v depthField
 
-module _ {X S : Words} {t index : List ℕ} {v : ℕ} (β : Bordered X S t index v) where
-  pub up : {w : ℕ} → w ≡ fieldAt t v borderField → (v ≡ 0 → ⊥) → Up X S t index v w
-  up {w} i f = go (word S v) refl
-    where
-      go : (u : Word) → word S v ≡ u → Up X S t index v w
-      go [] e = absurd (f (root-only (β .tree .states) (β .inside) e))
-      go (a ∷ u) e =
-          let (b, h) = border-exists S (β .tree .states .trie) a u in
-          let is : border S (word S v) ≡ some b = ap (border S) e ∙ h in
-          let same : w ≡ b = i ∙ β .borders v (β .inside) (omega arith) ∙ ap stored is in
-          let inside : b < length S = proper-inside S S (word S v) b is in
-          let shorter : length (word S b) < length (word S v) = proper-shorter S S (word S v) b is in
-          rw same (record {
-            is = is;
-            bordered = record {
-              tree = β .tree;
-              indexed = β .indexed;
-              inside = inside;
-              borders = λ s l d. β .borders s l (omega arith);
-            };
-            less = omega (arith, β .tree .depths b inside, β .tree .depths v (β .inside));
-          })
+pub higher : {X S : Words} {t : List ℕ} → Tree X S t → {v w : ℕ} → v < length S → Right S t borderField (borderOf S) v
+    → w ≡ fieldAt t v borderField → (v ≡ 0 → ⊥) → Higher S t v w
+higher {S = S} {t} τ {v} {w} l right i f = go (word S v) refl
+  where
+    go : (u : Word) → word S v ≡ u → Higher S t v w
+    go [] e = absurd (f (root-only (τ .states) l e))
+    go (a ∷ u) e =
+        let (b, h) = border-exists S (τ .states .trie) a u in
+        let is : border S (word S v) ≡ some b = ap (border S) e ∙ h in
+        let inside : b < length S = proper-inside S S (word S v) b is in
+        let shorter : length (word S b) < length (word S v) = proper-shorter S S (word S v) b is in
+        rw (i ∙ right ∙ ap stored is) (record {
+          is = is;
+          inside = inside;
+          shorter = shorter;
+          less = omega (arith, τ .depths b inside, τ .depths v l);
+        })
+
+-- .. and the borders up to its depth are right
+pub record Up (X S : Words) (t index : List ℕ) (v w : ℕ) : Type 0 where
+  pub step : Higher S t v w
+  pub bordered : Bordered X S t index w
+
+pub up : {X S : Words} {t index : List ℕ} {v w : ℕ} → Bordered X S t index v → w ≡ fieldAt t v borderField → (v ≡ 0 → ⊥) → Up X S t index v w
+up {v = v} β i f =
+    let h = higher (β .tree) (β .inside) (β .borders v (β .inside) (omega arith)) i f in
+    record {
+      step = h;
+      bordered = record {
+        tree = β .tree;
+        indexed = β .indexed;
+        inside = h .inside;
+        borders = λ s l d. β .borders s l (omega (arith, h .shorter));
+      };
+    }
 
 -- one step of the climb, by what the child by a is
 module _ {X S : Words} {t index : List ℕ} {v : ℕ} (β : Bordered X S t index v) (a : ℕ) where
@@ -68,10 +83,10 @@ module _ {X S : Words} {t index : List ℕ} {v : ℕ} (β : Bordered X S t index
 
   pub by-border : find S (snoc (word S v) a) ≡ none → {w : ℕ} → Up X S t index v w
       → nearest S S (snoc (word S v) a) ≡ nearest S S (snoc (word S w) a)
-  by-border e h = step-border S (β .tree .states .trie) (word S v) a _ (h .is) e
+  by-border e h = step-border S (β .tree .states .trie) (word S v) a _ (h .step .is) e
 
   pub border-up : {w : ℕ} → Up X S t index v w → border S (snoc (word S v) a) ≡ nearest S S (snoc (word S w) a)
-  border-up h = border-step S (β .tree .states .trie) (word S v) a _ (h .is)
+  border-up h = border-step S (β .tree .states .trie) (word S v) a _ (h .step .is)
 
   pub border-root : v ≡ 0 → border S (snoc (word S v) a) ≡ some 0
   border-root e = rw (e, root-word (β .tree .states)) (border-first S (β .tree .states .trie) a)

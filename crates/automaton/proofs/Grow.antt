@@ -16,15 +16,15 @@ use Rattle.meaning.specs.Automaton.{add}
 use Rattle.meaning.specs.Table.{stored, firstChild, lastLetter, nextSibling, childFrom, width, letterField, childField, siblingField, depthField, wordField, borderField, linkField}
 use Rattle.meaning.proofs.Lists.{snoc-inj, snoc-length}
 use Rattle.meaning.proofs.Find.{find-some, find-new, find-other}
-use Rattle.meaning.proofs.States.{Bounded, WordsIn, Placed, before, atEnd, placed, add-old, add-new}
-use Rattle.meaning.proofs.Children.{NoChild, childFrom-new, childFrom-leaf, lastLetter-snoc, sibling-snoc}
+use Rattle.meaning.proofs.States.{Bounded, WordsIn, Placed, before, atEnd, placed, add-old, add-new, add-bounded, add-words}
+use Rattle.meaning.proofs.Children.{NoChild, childFrom-new, childFrom-leaf, lastLetter-snoc, sibling-snoc, sibling-new}
 use Rattle.meaning.proofs.Rows.{stored-some}
 use Rattle.automaton.specs.Layout.{fieldAt, setField, HasRow, newRow}
 use Rattle.automaton.specs.Tree.{Column, Tree, Blank, AtState, Indexed}
 use Rattle.automaton.specs.Insertion.{Holder, own, child, Sought, attached, rootChild, noted, Growing, Open, Reaching}
 use Rattle.automaton.proofs.Cells.{set-here, set-past, row-here, row-before, row-past}
 use Rattle.automaton.proofs.Walk.{state-row, found-small}
-use Rattle.automaton.proofs.NewState.{add-bounded, add-words, sibling-new, first-kept, next-kept}
+use Rattle.automaton.proofs.NewState.{first-kept, next-kept}
 
 -- t′ is t with the numbers vs as a new row n, and then n in the field g of an earlier row o
 record Added (t t′ : List ℕ) (n : ℕ) (vs : List ℕ) (o g : ℕ) : Type 0 where

@@ -15,7 +15,7 @@ use Rattle.meaning.specs.Automaton.{prefixes, add, addAll}
 use Rattle.meaning.specs.Table.{stored, lastLetter, firstChild, nextSibling, width, letterField, childField, siblingField, depthField, wordField, borderField, linkField}
 use Rattle.meaning.proofs.Lists.{snoc-length}
 use Rattle.meaning.proofs.Find.{none-or-some, FirstAt, find-some, find-new, find-other}
-use Rattle.meaning.proofs.States.{extends-length, add-extends, addAll-append, addAll-extends, prefixes-snoc}
+use Rattle.meaning.proofs.States.{extends-length, add-extends, addAll-append, addAll-extends, prefixes-snoc, prefixes-append}
 use Rattle.automaton.specs.Layout.{fieldAt, setField, HasRow}
 use Rattle.automaton.specs.Tree.{Column}
 use Rattle.automaton.specs.Filling.{SameBut}
@@ -23,7 +23,6 @@ use Rattle.automaton.specs.Insertion.{Growing, Open, Reaching, Insertabl
 use Rattle.automaton.proofs.Walk.{state-row}
 use Rattle.automaton.proofs.Column.{same-set, right-set}
 use Rattle.automaton.proofs.Cells.{set-other-row, set-past}
-use Rattle.automaton.proofs.NewState.{prefixes-append}
 
 -- the states with the prefixes of the first i letters
 abbrev pub statesTo : Words → Word → ℕ → Words

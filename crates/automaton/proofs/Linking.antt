@@ -19,7 +19,7 @@ use Rattle.automaton.specs.Tree.{Right, Tree, linkOf}
 use Rattle.automaton.specs.Filling.{Grown, Ready, ReadyAt, Filled}
 use Rattle.automaton.proofs.Walk.{state-small}
 use Rattle.automaton.proofs.Column.{same-tree, grown-refl, grown-trans, right-set, grown-set}
-use Rattle.automaton.proofs.Climb.{root-word, root-only}
+use Rattle.automaton.proofs.Climb.{root-word, Higher, higher}
 
 -- what the word column says of state v
 module _ {X S : Words} {t : List ℕ} (τ : Tree X S t) {v : ℕ} (inside : v < length S) {k : ℕ} (e : k ≡ fieldAt t v wordField) where
@@ -29,12 +29,6 @@ module _ {X S : Words} {t : List ℕ} (τ : Tree X S t) {v : ℕ} (inside : v < 
   pub no-word : k ≡ absent → find X (word S v) ≡ none
   no-word f = stored-none _ (λ n q. omega (arith, find-some X (word S v) n q .inside, τ .words .few)) (e ∙ τ .numbers v inside) f
 
--- w is the border of state v
-pub record Above (X S : Words) (t : List ℕ) (v w : ℕ) : Type 0 where
-  pub is : border S (word S v) ≡ some w
-  pub ready : ReadyAt X S t w
-  pub less : fieldAt t w depthField < fieldAt t v depthField
-
 module _ {X S : Words} {t : List ℕ} {v : ℕ} (ρ : ReadyAt X S t v) where
   -- the root has no link
   pub link-root : v ≡ 0 → link X S (word S v) ≡ none
@@ -42,28 +36,18 @@ module _ {X S : Words} {t : List ℕ} {v : ℕ} (ρ : ReadyAt X S t v) where
 
   -- any other state has that of its border w, unless w is a word
   module _ {w : ℕ} (e : w ≡ fieldAt t v borderField) (f : v ≡ 0 → ⊥) where
-    pub above : Above X S t v w
-    above = go (word S v) refl
-      where
-        go : (u : Word) → word S v ≡ u → Above X S t v w
-        go [] q = absurd (f (root-only (ρ .tree .states) (ρ .inside) q))
-        go (a ∷ u) q =
-            let (b, h) = border-exists S (ρ .tree .states .trie) a u in
-            let is : border S (word S v) ≡ some b = ap (border S) q ∙ h in
-            let same : w ≡ b = e ∙ ρ .borders v (ρ .inside) ∙ ap stored is in
-            let inside : b < length S = proper-inside S S (word S v) b is in
-            rw same (record {
-              is = is;
-              ready = record { tree = ρ .tree; borders = ρ .borders; inside = inside };
-              less = omega (arith, proper-shorter S S (word S v) b is, ρ .tree .depths b inside, ρ .tree .depths v (ρ .inside));
-            })
+    pub above : Higher S t v w
+    above = higher (ρ .tree) (ρ .inside) (ρ .borders v (ρ .inside)) e f
+
+    pub ready-above : ReadyAt X S t w
+    ready-above = record { tree = ρ .tree; borders = ρ .borders; inside = above .inside }
 
     module _ {k : ℕ} (i : k ≡ fieldAt t w wordField) where
       pub link-here : (k ≡ absent → ⊥) → link X S (word S v) ≡ some w
-      link-here g = link-is-border X S (ρ .tree .words .within) (word S v) w k (above .is) (is-word (ρ .tree) (above .ready .inside) i g)
+      link-here g = link-is-border X S (ρ .tree .words .within) (word S v) w k (above .is) (is-word (ρ .tree) (above .inside) i g)
 
       pub link-on : k ≡ absent → link X S (word S v) ≡ link X S (word S w)
-      link-on g = link-past-border X S (ρ .tree .words .within) (word S v) w (above .is) (no-word (ρ .tree) (above .ready .inside) i g)
+      link-on g = link-past-border X S (ρ .tree .words .within) (word S v) w (above .is) (no-word (ρ .tree) (above .inside) i g)
 
 -- the links of the states below s are filled in, and what was right still is
 pub record LinkedTo (X S : Words) (t₀ t : List ℕ) (s : ℕ) : Type 0 where

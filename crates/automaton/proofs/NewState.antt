@@ -19,46 +19,6 @@ use Rattle.meaning.proofs.States.{Bounded, WordsIn, add-extends, add-other, add
 use Rattle.meaning.proofs.Children.{NoChild, childFrom-elsewhere, childFrom-above, childFrom-before, sibling-snoc}
 use Rattle.automaton.specs.Insertion.{Holder, own, child}
 
-pub prefixes-append : (p u v : Word) → prefixes p (u ++ v) ≡ prefixes p u ++ prefixes (p ++ u) v
-prefixes-append p [] v = rw append-nil
-prefixes-append p (b ∷ u) v = ap (λ (l : Words). snoc p b ∷ l) (prefixes-append (snoc p b) u v ∙ rw append-snoc)
-
--- the states stay within the limits
-pub add-bounded : (S : Words) (u : Word) (a : ℕ) → Bounded S → Has S u → a < letterValues → length u < longestWord
-    → length (add S (snoc u a)) ≤ mostStates → Bounded (add S (snoc u a))
-add-bounded S u a b h byte short few = record {
-  trie = add-trie S u a (b .trie) h;
-  bytes = λ v c m e. bytes v c m e (compare (snoc u a) (snoc v c));
-  short = λ v m e. shorts v m e (compare (snoc u a) v);
-  few = few;
-}
-  where
-    bytes : (v : Word) (c m : ℕ) → find (add S (snoc u a)) (snoc v c) ≡ some m → Alike (snoc u a) (snoc v c) → c < letterValues
-    bytes v c m e (alike q) = let i = snoc-inj u v q .1 in omega arith
-    bytes v c m e (apart d) = b .bytes v c m (sym (add-other S (snoc u a) (snoc v c) d) ∙ e)
-
-    shorts : (v : Word) (m : ℕ) → find (add S (snoc u a)) v ≡ some m → Alike (snoc u a) v → length v ≤ longestWord
-    shorts v m e (alike q) = omega (arith, ap length q, snoc-length u a)
-    shorts v m e (apart d) = b .short v m (sym (add-other S (snoc u a) v d) ∙ e)
-
-pub add-words : {X S : Words} (v : Word) → WordsIn X S → WordsIn X (add S v)
-add-words {S = S} v h = record {
-  nonempty = h .nonempty;
-  within = λ w e. h .within w (extends-within (add-extends S v) w e);
-  few = h .few;
-}
-
--- the sibling after the new state is the child that was next from a on
-childFrom-past : (S : Words) (u : Word) (a : ℕ) → a < letterValues → find S (snoc u a) ≡ none
-    → childFrom S u a ≡ childFrom S u (suc a)
-unfolding childFrom
-childFrom-past S u a byte fresh = let e : letterValues - a ≡ suc (letterValues - suc a) = omega arith in rw (e, fresh)
-
-pub sibling-new : (S : Words) (u : Word) (a : ℕ) → a < letterValues → find S (snoc u a) ≡ none
-    → nextSibling (snoc S (snoc u a)) (snoc u a) ≡ childFrom S u a
-sibling-new S u a byte fresh =
-    sibling-snoc (snoc S (snoc u a)) u a ∙ childFrom-above S u a (suc a) (omega arith) ∙ sym (childFrom-past S u a byte fresh)
-
 -- the pointer to the child from `from` on is the one that changes; each other stays
 module _ (S : Words) (u : Word) {a from before : ℕ} (fresh : find S (snoc u a) ≡ none) (h : Holder S u from before) (low : from ≤ a)
     (gap : NoChild S u from a) where

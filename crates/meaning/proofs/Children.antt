@@ -192,3 +192,14 @@ lastLetter-snoc (b ∷ c ∷ u) a = lastLetter-snoc (c ∷ u) a
 -- the next sibling of a child is the child with the least greater letter
 pub sibling-snoc : (S : Words) (u : Word) (a : ℕ) → nextSibling S (snoc u a) ≡ childFrom S u (suc a)
 sibling-snoc S u a = rw (lastLetter-snoc u a) (rw (front-snoc u a))
+
+-- the sibling after the new state is the child that was next from a on
+childFrom-past : (S : Words) (u : Word) (a : ℕ) → a < letterValues → find S (snoc u a) ≡ none
+    → childFrom S u a ≡ childFrom S u (suc a)
+unfolding childFrom
+childFrom-past S u a byte fresh = let e : letterValues - a ≡ suc (letterValues - suc a) = omega arith in rw (e, fresh)
+
+pub sibling-new : (S : Words) (u : Word) (a : ℕ) → a < letterValues → find S (snoc u a) ≡ none
+    → nextSibling (snoc S (snoc u a)) (snoc u a) ≡ childFrom S u a
+sibling-new S u a byte fresh =
+    sibling-snoc (snoc S (snoc u a)) u a ∙ childFrom-above S u a (suc a) (omega arith) ∙ sym (childFrom-past S u a byte fresh)

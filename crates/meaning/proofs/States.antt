@@ -129,6 +129,10 @@ pub prefixes-snoc : (p u : Word) (a : ℕ) → prefixes p (snoc u a) ≡ snoc (p
 prefixes-snoc p [] a = rw append-nil
 prefixes-snoc p (b ∷ u) a = ap (λ (l : Words). snoc p b ∷ l) (prefixes-snoc (snoc p b) u a ∙ rw append-snoc)
 
+pub prefixes-append : (p u v : Word) → prefixes p (u ++ v) ≡ prefixes p u ++ prefixes (p ++ u) v
+prefixes-append p [] v = rw append-nil
+prefixes-append p (b ∷ u) v = ap (λ (l : Words). snoc p b ∷ l) (prefixes-append (snoc p b) u v ∙ rw append-snoc)
+
 pub prefixes-length : (p u : Word) → length (prefixes p u) ≡ length u
 prefixes-length p [] = refl
 prefixes-length p (a ∷ u) = ap suc (prefixes-length (snoc p a) u)
@@ -399,3 +403,28 @@ allowed-bounded X d = record {
 
 pub allowed-words : (X : Words) → Allowed X → WordsIn X (states X)
 allowed-words X d = record { nonempty = no-empty X (d .storable .dictionary .nonempty); within = states-within X; few = d .storable .few }
+
+-- a state more stays within the limits
+pub add-bounded : (S : Words) (u : Word) (a : ℕ) → Bounded S → Has S u → a < letterValues → length u < longestWord
+    → length (add S (snoc u a)) ≤ mostStates → Bounded (add S (snoc u a))
+add-bounded S u a b h byte short few = record {
+  trie = add-trie S u a (b .trie) h;
+  bytes = λ v c m e. bytes v c m e (compare (snoc u a) (snoc v c));
+  short = λ v m e. shorts v m e (compare (snoc u a) v);
+  few = few;
+}
+  where
+    bytes : (v : Word) (c m : ℕ) → find (add S (snoc u a)) (snoc v c) ≡ some m → Alike (snoc u a) (snoc v c) → c < letterValues
+    bytes v c m e (alike q) = let i = snoc-inj u v q .1 in omega arith
+    bytes v c m e (apart d) = b .bytes v c m (sym (add-other S (snoc u a) (snoc v c) d) ∙ e)
+
+    shorts : (v : Word) (m : ℕ) → find (add S (snoc u a)) v ≡ some m → Alike (snoc u a) v → length v ≤ longestWord
+    shorts v m e (alike q) = omega (arith, ap length q, snoc-length u a)
+    shorts v m e (apart d) = b .short v m (sym (add-other S (snoc u a) v d) ∙ e)
+
+pub add-words : {X S : Words} (v : Word) → WordsIn X S → WordsIn X (add S v)
+add-words {S = S} v h = record {
+  nonempty = h .nonempty;
+  within = λ w e. h .within w (extends-within (add-extends S v) w e);
+  few = h .few;
+}

@@ -8,7 +8,7 @@ use Rattle.meaning.specs.Table.{stored, depthField}
 use Rattle.automaton.specs.Layout.{fieldAt}
 use Rattle.automaton.specs.Filling.{ReadyAt}
 use Rattle.automaton.proofs.Walk.{state-row}
-use Rattle.automaton.proofs.Linking.{above, link-root, link-here, link-on}
+use Rattle.automaton.proofs.Linking.{above, ready-above, link-root, link-here, link-on}
 use Rattle.automaton.proofs.links.link_of.Statement.{statement}
 use Rattle.automaton.proofs.links.link_of.Tie as tie
 
@@ -34,7 +34,7 @@ word-requires : tie.Need-word-requires Inv-loop μ-loop
 word-requires c κs =
     let turn = c .before in
     let ρ = turn .before .loop .inv _ _ (turn .before .before .before .pre .2) .here in
-    state-row (ρ .tree) (above ρ (c .border .ensures .is) (turn .loop-test .taken) .ready .inside)
+    state-row (ρ .tree) (above ρ (c .border .ensures .is) (turn .loop-test .taken) .inside)
 
 returns : tie.Need-returns Inv-loop μ-loop
 returns c X S ρ =
@@ -55,7 +55,7 @@ loop-again c X S ρ =
     let h = turn .before .loop .inv X S ρ in
     let e = c .before .before .border .ensures .is in
     let f = turn .loop-test .taken in
-    record { here = above (h .here) e f .ready; is = h .is ∙ link-on (h .here) e f (c .before .word .ensures .is) (c .if1 .left) }
+    record { here = ready-above (h .here) e f; is = h .is ∙ link-on (h .here) e f (c .before .word .ensures .is) (c .if1 .left) }
 
 returns-2 : tie.Need-returns-2 Inv-loop μ-loop
 returns-2 c X S ρ = let h = c .before .loop .inv X S ρ in sym (ap stored (h .is ∙ link-root (h .here) (c .loop-test .left)))

@@ -52,7 +52,7 @@ loop-less : tie.Need-loop-less Inv-loop μ-loop
 loop-less c =
     let turn = c .before .before .before in
     let head = turn .before in
-    up (head .loop .inv _ _ (head .before .before .pre .0 .2) .here) (c .border .ensures .is) (turn .loop-test .taken) .less
+    up (head .loop .inv _ _ (head .before .before .pre .0 .2) .here) (c .border .ensures .is) (turn .loop-test .taken) .step .less
 
 loop-again : tie.Need-loop-again Inv-loop μ-loop
 loop-again c X S β =

@@ -1,0 +1,5 @@
+pub mod Tallying
+pub mod Entry
+pub mod Written
+pub mod Filling
+pub mod Agreeing

@@ -1,0 +1,8 @@
+// The columns of a text: the state and the count at each of its positions.
+mod checking;
+mod entries;
+mod scanning;
+
+pub use checking::are_columns;
+pub use scanning::Findings;
+pub use scanning::scan;

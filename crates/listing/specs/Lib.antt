@@ -1,0 +1,4 @@
+pub mod Positions
+pub mod Writing
+pub mod Changes
+pub mod Answers
