@@ -15,12 +15,13 @@ use Rattle.records.specs.declared.dictionary.Dictionary.the-variants as 
 use Rattle.records.specs.declared.book.Book.{Book}
 use Rattle.records.specs.declared.book.Book.the-variants as book
 
-record Same (s t : Told) : Type 0 where
-  number : s .number ≡ t .number
-  place : s .place ≡ t .place
-  values : s .values ≡ t .values
+-- what is told, part by part
+pub record Same (s t : Told) : Type 0 where
+  pub number : s .number ≡ t .number
+  pub place : s .place ≡ t .place
+  pub values : s .values ≡ t .values
 
-parts : {s t : Told} → s ≡ t → Same s t
+pub parts : {s t : Told} → s ≡ t → Same s t
 parts e = record {
   number = ap (λ (t : Told). t .number) e;
   place = ap (λ (t : Told). t .place) e;

@@ -1,0 +1,179 @@
+// What the library's calls tell of a case and leave in its buffers, mixed into the checksum.
+ghost use Prim.Native.Nat.{_<_, _≤_};
+use super::sum::mixed;
+use orgamish::BuildAnswer;
+use orgamish::FirstAnswer;
+use orgamish::NextAnswer;
+use orgamish::ScanAnswer;
+use orgamish::build;
+use orgamish::first;
+use orgamish::next;
+use orgamish::scan;
+
+// The number of the refusal of a text that has no reading.
+const NO_READING: u16 = 12;
+
+fn wide(n: u16) -> u64
+    ensures { λ r. ⌜ r < 65536 ⌝ }
+{
+    n as u64
+}
+
+fn size(n: u16) -> usize
+    ensures { λ r. ⌜ r < 65536 ⌝ }
+{
+    n as usize
+}
+
+fn at_most(n: usize, most: usize) -> usize
+    ensures { λ r. ⌜ r ≤ most ⌝ }
+{
+    if n < most { n } else { most }
+}
+
+// The sum with the first `count` numbers.
+fn mixed_numbers(h: u64, numbers: &[u16], count: usize) -> u64 {
+    let end = at_most(count, numbers.len());
+    let mut sum = h;
+    for i in 0..end {
+        sum = mixed(sum, wide(numbers[i]));
+    }
+    sum
+}
+
+// The sum with the first `count` counts.
+fn mixed_counts(h: u64, counts: &[u64], count: usize) -> u64 {
+    let end = at_most(count, counts.len());
+    let mut sum = h;
+    for i in 0..end {
+        sum = mixed(sum, counts[i]);
+    }
+    sum
+}
+
+fn mixed_refusal(h: u64, number: u16, place: u16) -> u64 {
+    mixed(mixed(h, wide(number)), wide(place))
+}
+
+// The sum with a refusal that no case should meet.
+fn mixed_surprise(h: u64, number: u16, place: u16) -> u64 {
+    mixed_refusal(mixed(h, 2), number, place)
+}
+
+fn mixed_reading(h: u64, reading: &[u16], words: u16) -> u64 {
+    mixed_numbers(mixed(h, wide(words)), reading, size(words))
+}
+
+// The sum with the reading of so many words, those after it, and how many they are, 40 at most.
+fn mixed_from(
+    h: u64,
+    dict: &[u8],
+    table: &[u16],
+    text: &[u8],
+    states: &[u16],
+    counts: &[u64],
+    reading: &mut [u16],
+    words: u16,
+) -> u64 {
+    let mut given = words;
+    let mut sum = mixed_reading(h, reading, given);
+    let mut listed = 1;
+    while listed < 40 {
+        match next(dict, table, text, states, counts, reading, size(given)) {
+            NextAnswer::End => {
+                return mixed(sum, listed);
+            }
+            NextAnswer::Refused { number, place } => {
+                return mixed_surprise(sum, number, place);
+            }
+            NextAnswer::Words { words: more } => {
+                given = more;
+                sum = mixed_reading(sum, reading, given);
+                listed += 1;
+            }
+        }
+    }
+    mixed(sum, listed)
+}
+
+// The sum with the readings of a scanned text.
+fn mixed_readings(
+    h: u64,
+    dict: &[u8],
+    table: &[u16],
+    text: &[u8],
+    states: &[u16],
+    counts: &[u64],
+) -> u64 {
+    let mut reading = [0u16; 32];
+    match first(dict, table, text, states, counts, &mut reading) {
+        FirstAnswer::Words { words } => mixed_from(
+            h,
+            dict,
+            table,
+            text,
+            states,
+            counts,
+            &mut reading,
+            words,
+        ),
+        FirstAnswer::Refused { number, place } => {
+            if number == NO_READING {
+                return mixed(h, 0);
+            }
+            mixed_surprise(h, number, place)
+        }
+    }
+}
+
+// The sum with the first `positions` entries of the columns.
+fn mixed_columns(h: u64, states: &[u16], counts: &[u64], positions: usize) -> u64 {
+    mixed_counts(mixed_numbers(h, states, positions), counts, positions)
+}
+
+// The sum with what the text's scan and listing give.
+fn mixed_text(h: u64, dict: &[u8], table: &[u16], text: &[u8]) -> u64 {
+    let mut states = [0u16; 32];
+    let mut counts = [0u64; 32];
+    match scan(dict, table, text, &mut states, &mut counts) {
+        ScanAnswer::Refused { number, place } => mixed_surprise(h, number, place),
+        ScanAnswer::Scanned {
+            accepted,
+            farthest,
+            count,
+            probes,
+        } => {
+            let verdict = if accepted { 1 } else { 0 };
+            let h1 = mixed(mixed_columns(h, &states, &counts, text.len() + 1), verdict);
+            let h2 = mixed(mixed(h1, wide(farthest)), count);
+            let h3 = mixed(h2, probes as u64);
+            mixed_readings(h3, dict, table, text, &states, &counts)
+        }
+    }
+}
+
+// The sum with what a dictionary and a text give. A dictionary of at most 64 bytes has fewer than 64
+// states, of 7 numbers each.
+fn mixed_build(h: u64, dict: &[u8], text: &[u8]) -> u64 {
+    let mut table = [0u16; 448];
+    match build(dict, &mut table) {
+        BuildAnswer::Refused { number, place } => mixed_refusal(mixed(h, 1), number, place),
+        BuildAnswer::Built {
+            words,
+            states,
+            longest,
+        } => {
+            let h1 = mixed(mixed(h, 0), wide(words));
+            let h2 = mixed(mixed(h1, wide(states)), wide(longest));
+            let h3 = mixed_numbers(h2, &table, 7 * size(states));
+            mixed_text(h3, dict, &table, text)
+        }
+    }
+}
+
+// The sum with what one case gives: the dictionary and the text are the first bytes of two arrays.
+pub fn mixed_case(h: u64, d: &[u8], d_len: usize, t: &[u8], t_len: usize) -> u64 {
+    let d_end = at_most(d_len, d.len());
+    let t_end = at_most(t_len, t.len());
+    mixed_build(h, &d[..d_end], &t[..t_end])
+}

@@ -1,0 +1,98 @@
+-- What a call tells and leaves, by the tests that were made.
+use mathlib.Core.Path.{_≡_, refl, sym, ap, _∙_}
+use mathlib.Core.Bool.{Bool, true, false}
+use mathlib.Core.List.{List}
+use Prim.Native.Nat.{ℕ, zero, suc, _≤_}
+use native.Mathlib.Omega.{arith}
+use lib.Dec.{ltb}
+use lib.ListN.{length}
+use borrow.Author.Tests.{lt-ltb, le-ltb}
+use Rattle.meaning.specs.Numbers.{longestWord}
+use Rattle.meaning.specs.Words.{if_then_else_, Word, Words, word}
+use Rattle.meaning.specs.Automaton.{states, longestChain}
+use Rattle.meaning.specs.Readings.{accepted, countAt}
+use Rattle.meaning.specs.Plain.{Allowed}
+use Rattle.meaning.proofs.States.{allowed-bounded}
+use Rattle.meaning.proofs.Chains.{chain-length, r-attained}
+use Rattle.meaning.proofs.Counts.{count-readable, count-unreadable}
+use Rattle.records.specs.Run.{Run, ran, refused}
+use Rattle.records.specs.Told.{refusal}
+use Rattle.automaton.specs.Lending.{tooShort, wrote}
+use Rattle.automaton.specs.declared.lending.Wrote.the-variants as write
+use Rattle.orgamish.specs.Order.{_andThen_}
+use Rattle.orgamish.specs.Judging.{passed, verdict}
+use Rattle.orgamish.specs.Calls.{toldBy, leftBy, tells, leaves}
+use Rattle.orgamish.specs.declared.judging.Verdict.the-variants.{Refused}
+
+-- the dictionary is that of X, and the tests come to n
+pub record Came (test : Words → ℕ) (run : Run) (X : Words) (n : ℕ) : Type 0 where
+  pub end : ℕ
+  pub is : run ≡ ran X end
+  pub comes : test X ≡ n
+
+module _ {test : Words → ℕ} {run : Run} {X : Words} {n : ℕ} (κ : Came test run X n) where
+  pub came-tells : (values : Words → List ℕ) → toldBy n (values X) ≡ tells test values run
+  came-tells values = ap (λ (k : ℕ). toldBy k (values X)) (sym (κ .comes)) ∙ ap (tells test values) (sym (κ .is))
+
+  pub came-leaves : (after : Words → List ℕ) (before : List ℕ) → leftBy n (after X) before ≡ leaves test after before run
+  came-leaves after before =
+      ap (λ (k : ℕ). leftBy k (after X) before) (sym (κ .comes)) ∙ ap (leaves test after before) (sym (κ .is))
+
+-- the shared tests refuse
+module _ (test : Words → ℕ) where
+  pub tells-refused : (values : Words → List ℕ) (run : Run) {number place : ℕ} → Refused number place ≡ verdict test run
+      → refusal number place ≡ tells test values run
+  tells-refused values (refused n p) e = cc
+  tells-refused values (ran X end) {number} {place} e = go (test X) e
+    where
+      go : (k : ℕ) → Refused number place ≡ passed k → refusal number place ≡ toldBy k (values X)
+      go zero q = let z : _≡_ {A = ℕ} 0 1 = cc in absurd (omega arith)
+      go (suc k) q = cc
+
+  pub leaves-refused : (after : Words → List ℕ) (before : List ℕ) (run : Run) {number place : ℕ} → Refused number place ≡ verdict test run
+      → before ≡ leaves test after before run
+  leaves-refused after before (refused n p) e = refl
+  leaves-refused after before (ran X end) {number} {place} e = go (test X) e
+    where
+      go : (k : ℕ) → Refused number place ≡ passed k → before ≡ leftBy k (after X) before
+      go zero q = let z : _≡_ {A = ℕ} 0 1 = cc in absurd (omega arith)
+      go (suc k) q = refl
+
+pub then-comes : (m n : ℕ) {k : ℕ} → m ≡ 0 → n ≡ k → m andThen n ≡ k
+then-comes m n e f = ap (λ (j : ℕ). j andThen n) e ∙ f
+
+-- what became of a lent table
+pub wrote-short : (X : Words) (tb : List ℕ) → write.Short ≡ wrote X tb → tooShort X tb ≡ true
+wrote-short X tb e = go (tooShort X tb) e
+  where
+    go : (b : Bool) → write.Short ≡ (if b then write.Short else write.Rows (length (states X)) (longestChain X)) → b ≡ true
+    go true q = refl
+    go false q = let z : _≡_ {A = ℕ} 0 1 = cc in absurd (omega arith)
+
+pub record WroteRows (X : Words) (tb : List ℕ) (count longest : ℕ) : Type 0 where
+  pub fits : tooShort X tb ≡ false
+  pub states : count ≡ length (states X)
+  pub chain : longest ≡ longestChain X
+
+pub wrote-rows : (X : Words) (tb : List ℕ) {s l : ℕ} → write.Rows s l ≡ wrote X tb → WroteRows X tb s l
+wrote-rows X tb {s} {l} e = go (tooShort X tb) refl e
+  where
+    go : (b : Bool) → tooShort X tb ≡ b → write.Rows s l ≡ (if b then write.Short else write.Rows (length (states X)) (longestChain X))
+        → WroteRows X tb s l
+    go true p q = let z : _≡_ {A = ℕ} 0 1 = cc in absurd (omega arith)
+    go false p q = record { fits = p; states = cc; chain = cc }
+
+-- r is no more than the letters of a word
+pub longest-small : (X : Words) → Allowed X → longestChain X ≤ longestWord
+longest-small X α =
+    let (n, inside, e) = r-attained X in
+    let β = allowed-bounded X α in
+    omega (arith, e, chain-length X (word (states X) n), β .short (word (states X) n) n (β .trie .once n inside))
+
+-- a text is accepted exactly where its count isn't 0
+pub counted-accepted : (X : Words) (t : Word) → ltb 0 (countAt X t (length t)) ≡ accepted X t
+counted-accepted X t = go (accepted X t) refl
+  where
+    go : (b : Bool) → accepted X t ≡ b → ltb 0 (countAt X t (length t)) ≡ b
+    go true e = lt-ltb _ _ (count-readable X t (length t) .0 e)
+    go false e = le-ltb 0 (countAt X t (length t)) (omega (arith, count-unreadable X t (length t) .0 e))

@@ -1,0 +1,195 @@
+-- Demands 2 and 3 of document 01, over the contracts of the public calls.
+use mathlib.Core.Path.{_≡_, refl, sym, ap, _∙_}
+use mathlib.Core.Logic.{_↔_}
+use mathlib.Core.Bool.{Bool, true, false}
+use mathlib.Core.Option.{Option, some}
+use mathlib.Core.List.{List, [], _∷_, _++_, head?, append-assoc, List·Memᴰ, List·Memᴰ·head, List·Memᴰ·tail}
+use Prim.Native.Nat.{ℕ, zero, suc, _≤_, _<_}
+use native.Mathlib.Omega.{arith}
+use borrow.Author.Tests.{le-ltb, le-leb}
+use lib.ListN.{length, getD, getElem?, take, drop, length-append, length-drop}
+use lib.Seq.{take-append-seam}
+use Rattle.meaning.specs.Numbers.{letterValues}
+use Rattle.meaning.specs.Words.{Word, Words, Reading}
+use Rattle.meaning.specs.Table.{over}
+use Rattle.meaning.specs.Readings.{readings, accepted, capped, countAt, probes, farthest}
+use Rattle.meaning.specs.Listing.{isReading, nextReading}
+use Rattle.meaning.specs.Plain.{Dictionary, Star, IsReading, LettersBelow}
+use Rattle.meaning.proofs.Readings.{accepted-is-star, readings-are, isReading-is}
+use Rattle.meaning.proofs.Next.{next-at}
+use Rattle.records.specs.Letters.{letter, mapped, identity}
+use Rattle.records.specs.Run.{ran, dictionary}
+use Rattle.records.specs.Told.{Told, answer, refusal}
+use Rattle.records.proofs.Bytes.{identity-at, identity-below}
+use Rattle.records.proofs.Accepted as record-laws
+use Rattle.orgamish.specs.Order.{_andThen_, scanRefusal, listRefusal, unreadRefusal, givenRefusal, fitRefusal, firstRefusal, nextRefusal}
+use Rattle.orgamish.specs.Calls.{flag, lengthOf, listed, scanTells, firstLeaves, nextTells, nextLeaves}
+use Rattle.orgamish.specs.Answers.{scanTold}
+use Rattle.orgamish.specs.Listings.{Heard, heard, goOn, listingFrom, listing}
+use Rattle.orgamish.specs.declared.answers.ScanAnswer.the-variants.{Scanned}
+use Rattle.orgamish.proofs.Called.{Came, came-tells, came-leaves, then-comes}
+use Rattle.orgamish.proofs.Listings.{reading-short}
+use Rattle.orgamish.proofs.Determined.{flag-once}
+
+-- a block's letters are its bytes
+pub own-bytes : (u : List ℕ) → LettersBelow letterValues u → mapped identity u ≡ u
+own-bytes [] h = refl
+own-bytes (x ∷ u) h =
+    let first : letter identity x ≡ x = identity-at x (h 0 (omega arith)) in
+    let rest = own-bytes u (λ i l. h (suc i) (omega arith)) in cc
+
+-- a list around one of its places
+at-split : {A : Type 0} (Q : List A) (x d : A) (L : List A) → getD (Q ++ x ∷ L) (length Q) d ≡ x
+at-split [] x d L = refl
+at-split (q ∷ Q) x d L = at-split Q x d L
+
+past-split : {A : Type 0} (Q : List A) (x : A) (L : List A) → getElem? (Q ++ x ∷ L) (suc (length Q)) ≡ head? L
+past-split [] x [] = refl
+past-split [] x (y ∷ L) = refl
+past-split (q ∷ Q) x L = past-split Q x L
+
+in-split : {A : Type 0} (Q : List A) (x : A) (L : List A) → List·Memᴰ x (Q ++ x ∷ L)
+in-split [] x L = List·Memᴰ·head refl
+in-split (q ∷ Q) x L = List·Memᴰ·tail (in-split Q x L)
+
+snoc-split : {A : Type 0} {R : List A} (Q : List A) (x y : A) (L : List A) → R ≡ Q ++ x ∷ y ∷ L → R ≡ (Q ++ x ∷ []) ++ y ∷ L
+snoc-split Q x y L e = e ∙ sym (append-assoc Q (x ∷ []) (y ∷ L))
+
+over-long : (ws b : List ℕ) → length ws ≤ length b → length (over ws b) ≡ length b
+over-long ws b h = omega (arith, length-append ws (drop (length ws) b), length-drop (length ws) b)
+
+fits-buffer : (ws : Reading) (b : List ℕ) → length ws ≤ length b → fitRefusal (some ws) b ≡ 0
+fits-buffer ws b h = rw (le-leb (length ws) (length b) h)
+
+next-behind : (X : Words) (t : Word) (Q : List Reading) (ns : Reading) (L : List Reading) → readings X t ≡ Q ++ ns ∷ L
+    → nextReading X t ns ≡ head? L
+next-behind X t Q ns L e =
+    let R = readings X t in
+    ap (nextReading X t) (sym (ap (λ (l : List Reading). getD l (length Q) []) e ∙ at-split Q ns [] L))
+    ∙ next-at X t (length Q) (omega (arith, ap length e, length-append Q (ns ∷ L)))
+    ∙ ap (λ (l : List Reading). getElem? l (suc (length Q))) e
+    ∙ past-split Q ns L
+
+-- the words of an accepted dictionary
+module _ (d : List ℕ) {X : Words} {end : ℕ} (is : dictionary identity d ≡ ran X end) where
+  words : Dictionary X
+  words = record-laws.allowed identity-below (record-laws.accepted false identity d is) .storable .dictionary
+
+  module _ (tb u ss cs : List ℕ) where
+    abbrev t : Word
+    t = mapped identity u
+
+    -- what an answer of the scan says
+    module _ (clear : scanRefusal X tb t ss cs ≡ 0) (yes : Bool) (f c p : ℕ)
+        (e : scanTold (Scanned yes f c p) ≡ scanTells identity d tb u ss cs) where
+      abbrev values : Words → List ℕ
+      values Y = flag (accepted Y t) ∷ farthest Y t ∷ countAt Y t (length t) ∷ probes Y t ∷ []
+
+      told : flag yes ∷ f ∷ c ∷ p ∷ [] ≡ values X
+      told =
+          let came : Came (λ Y. scanRefusal Y tb t ss cs) (dictionary identity d) X 0 = record { end = end; is = is; comes = clear } in
+          ap (λ (a : Told). a .values) (e ∙ sym (came-tells came values))
+
+      -- demand 2: accepted exactly where the text is in X*, by its own bytes
+      pub accepts-star : LettersBelow letterValues u → (yes ≡ true) ↔ Star X u
+      accepts-star bytes =
+          let flags : flag yes ≡ flag (accepted X t) = let q = told in cc in
+          let same = flag-once yes (accepted X t) flags in
+          let own = own-bytes u bytes in
+          let star = accepted-is-star X words u in
+          (λ y. star .0 (ap (accepted X) (sym own) ∙ sym same ∙ y), λ s. same ∙ ap (accepted X) own ∙ star .1 s)
+
+      -- demand 3: the count is the number of readings, or 2^64 - 1 where there are more
+      pub counts-readings : c ≡ capped (length (readings X t))
+      counts-readings = let q = told in cc
+
+    -- demand 3: first and then next
+    module _ (clear : listRefusal X tb t ss cs ≡ 0) where
+      abbrev End : Told
+      End = answer (0 ∷ [])
+
+      first-came : (b : List ℕ) {n : ℕ} → let o = head? (readings X t) in unreadRefusal o andThen fitRefusal o b ≡ n
+          → Came (λ Y. firstRefusal Y tb t ss cs b) (dictionary identity d) X n
+      first-came b e = record {
+        end = end;
+        is = is;
+        comes = then-comes (listRefusal X tb t ss cs) (unreadRefusal (head? (readings X t)) andThen fitRefusal (head? (readings X t)) b) clear e;
+      }
+
+      next-came : (b : List ℕ) (k : ℕ) → k ≤ length b → isReading X t (take k b) ≡ true → fitRefusal (nextReading X t (take k b)) b ≡ 0
+          → Came (λ Y. nextRefusal Y tb t ss cs b k) (dictionary identity d) X 0
+      next-came b k h r e =
+          let given : givenRefusal X t b k ≡ 0 = rw (le-ltb (length b) k h, r) in
+          record {
+            end = end;
+            is = is;
+            comes = then-comes (listRefusal X tb t ss cs) (givenRefusal X t b k andThen fitRefusal (nextReading X t (take k b)) b) clear
+                (then-comes (givenRefusal X t b k) (fitRefusal (nextReading X t (take k b)) b) given e);
+          }
+
+      reads : (L Q : List Reading) (ns : Reading) → readings X t ≡ Q ++ ns ∷ L → IsReading X t ns
+      reads L Q ns e = readings-are X words t ns .0 (rw e (in-split Q ns L))
+
+      short : (L Q : List Reading) (ns : Reading) → readings X t ≡ Q ++ ns ∷ L → length ns ≤ length t
+      short L Q ns e = reading-short X words t ns (reads L Q ns e)
+
+      -- what next tells and leaves where ns stands in the buffer
+      next-call : (L Q : List Reading) (ns : Reading) → readings X t ≡ Q ++ ns ∷ L → (b : List ℕ) → take (length ns) b ≡ ns → length t ≤ length b
+          → fitRefusal (head? L) b ≡ 0
+          → (nextTells identity d tb u ss cs b (length ns) ≡ answer (lengthOf (head? L)))
+          × (nextLeaves identity d tb u ss cs b (length ns) ≡ listed (head? L) b)
+      next-call L Q ns e b at long fit =
+          let k = length ns in
+          let next : nextReading X t (take k b) ≡ head? L = ap (nextReading X t) at ∙ next-behind X t Q ns L e in
+          let is-one : isReading X t (take k b) ≡ true = ap (isReading X t) at ∙ isReading-is X t ns .1 (reads L Q ns e) in
+          let w = next-came b k (omega (arith, short L Q ns e)) is-one (ap (λ (o : Option Reading). fitRefusal o b) next ∙ fit) in (
+            sym (came-tells w (λ Y. lengthOf (nextReading Y t (take k b)))) ∙ ap (λ (o : Option Reading). answer (lengthOf o)) next,
+            sym (came-leaves w (λ Y. listed (nextReading Y t (take k b)) b) b) ∙ ap (λ (o : Option Reading). listed o b) next,
+          )
+
+      -- one call more, that told so and left the buffer so
+      abbrev onto : ℕ → Reading → Told → List ℕ → Heard
+      onto f ws told after =
+          let more = goOn (listingFrom identity d tb u ss cs f after) told (told .values) in
+          heard (ws ∷ more .seen) (more .last)
+
+      -- the readings that are still to come
+      from : (L Q : List Reading) (ns : Reading) → readings X t ≡ Q ++ ns ∷ L → (b : List ℕ) → take (length ns) b ≡ ns → length t ≤ length b
+          → (f : ℕ) → length L < f → listingFrom identity d tb u ss cs f b (length ns) ≡ heard (ns ∷ L) End
+      from L Q ns e b at long zero h = absurd (omega arith)
+      from [] Q ns e b at long (suc f) h =
+          let (told, after) = next-call [] Q ns e b at long refl in
+          ap (λ (a : Told). onto f (take (length ns) b) a (nextLeaves identity d tb u ss cs b (length ns))) told
+          ∙ ap (λ (ws : Reading). heard (ws ∷ []) End) at
+      from (ms ∷ L) Q ns e b at long (suc f) h =
+          let k = length ns in
+          let room : length ms ≤ length b = omega (arith, short L (Q ++ ns ∷ []) ms (snoc-split Q ns ms L e)) in
+          let (told, after) = next-call (ms ∷ L) Q ns e b at long (fits-buffer ms b room) in
+          let later = from L (Q ++ ns ∷ []) ms (snoc-split Q ns ms L e) (over ms b) (take-append-seam ms (drop (length ms) b))
+          (omega (arith, over-long ms b room)) f (omega arith) in
+          ap (λ (a : Told). onto f (take k b) a (nextLeaves identity d tb u ss cs b k)) told
+          ∙ ap (λ (l : List ℕ). onto f (take k b) (answer (1 ∷ length ms ∷ [])) l) after
+          ∙ ap (λ (q : Heard). heard (take k b ∷ q .seen) (q .last)) later
+          ∙ ap (λ (ws : Reading). heard (ws ∷ ms ∷ L) End) at
+
+      -- a text without a reading
+      pub lists-none : (b : List ℕ) (f : ℕ) → readings X t ≡ [] → listing identity d tb u ss cs f b ≡ heard [] (refusal 12 0)
+      lists-none b f e =
+          let w = first-came b {n = 12} (rw e) in
+          ap (λ (a : Told). goOn (listingFrom identity d tb u ss cs f (firstLeaves identity d tb u ss cs b)) a (a .values))
+          (sym (came-tells w (λ Y. lengthOf (head? (readings Y t)))))
+
+      -- every reading once, in order, and then End
+      pub lists-all : (b : List ℕ) → length t ≤ length b → (f : ℕ) → length (readings X t) ≤ f → (ns : Reading) (L : List Reading)
+          → readings X t ≡ ns ∷ L → listing identity d tb u ss cs f b ≡ heard (readings X t) End
+      lists-all b long f h ns L e =
+          let room : length ns ≤ length b = omega (arith, short L [] ns e) in
+          let o : head? (readings X t) ≡ some ns = ap head? e in
+          let w = first-came b (ap (λ (q : Option Reading). unreadRefusal q andThen fitRefusal q b) o ∙ fits-buffer ns b room) in
+          let told = sym (came-tells w (λ Y. lengthOf (head? (readings Y t)))) ∙ ap (λ (q : Option Reading). answer (lengthOf q)) o in
+          let after = sym (came-leaves w (λ Y. listed (head? (readings Y t)) b) b) ∙ ap (λ (q : Option Reading). listed q b) o in
+          ap (λ (a : Told). goOn (listingFrom identity d tb u ss cs f (firstLeaves identity d tb u ss cs b)) a (a .values)) told
+          ∙ ap (λ (l : List ℕ). listingFrom identity d tb u ss cs f l (length ns)) after
+          ∙ from L [] ns e (over ns b) (take-append-seam ns (drop (length ns) b)) (omega (arith, over-long ns b room)) f
+          (omega (arith, ap length e))
+          ∙ ap (λ (R : List Reading). heard R End) (sym e)

@@ -1,0 +1,99 @@
+-- The contracts decide: any two outcomes that a call's contract allows are equal.
+use mathlib.Core.Path.{_≡_, refl, sym, _∙_}
+use mathlib.Core.Bool.{Bool, true, false}
+use mathlib.Core.List.{List}
+use Prim.Native.Nat.{ℕ}
+use native.Mathlib.Omega.{arith}
+use Rattle.records.proofs.Determined.{parts}
+use Rattle.orgamish.specs.Calls.{flag, buildTells, buildLeaves, scanTells, scanLeavesStates, scanLeavesCounts, firstTells, firstLeaves, nextTells, nextLeaves, bookTells}
+use Rattle.orgamish.specs.Answers.{buildTold, scanTold, firstTold, nextTold, bookTold}
+use Rattle.orgamish.specs.declared.answers.BuildAnswer.{BuildAnswer}
+use Rattle.orgamish.specs.declared.answers.BuildAnswer.the-variants as built
+use Rattle.orgamish.specs.declared.answers.ScanAnswer.{ScanAnswer}
+use Rattle.orgamish.specs.declared.answers.ScanAnswer.the-variants as scanned
+use Rattle.orgamish.specs.declared.answers.FirstAnswer.{FirstAnswer}
+use Rattle.orgamish.specs.declared.answers.FirstAnswer.the-variants as first
+use Rattle.orgamish.specs.declared.answers.NextAnswer.{NextAnswer}
+use Rattle.orgamish.specs.declared.answers.NextAnswer.the-variants as next
+use Rattle.orgamish.specs.declared.answers.BookAnswer.{BookAnswer}
+use Rattle.orgamish.specs.declared.answers.BookAnswer.the-variants as book
+
+pub flag-once : (b c : Bool) → flag b ≡ flag c → b ≡ c
+flag-once true true e = refl
+flag-once true false e = absurd (omega arith)
+flag-once false true e = absurd (omega arith)
+flag-once false false e = refl
+
+-- answers that tell the same are the same
+build-once : (r s : BuildAnswer) → buildTold r ≡ buildTold s → r ≡ s
+build-once (built.Built w n l) (built.Built v k c) e = let p = parts e in cc
+build-once (built.Built w n l) (built.Refused k o) e = let p = parts e in cc
+build-once (built.Refused n p) (built.Built v k c) e = let p = parts e in cc
+build-once (built.Refused n p) (built.Refused k o) e = let p = parts e in cc
+
+scan-once : (r s : ScanAnswer) → scanTold r ≡ scanTold s → r ≡ s
+scan-once (scanned.Scanned a f c p) (scanned.Scanned b g d q) e =
+    let z = parts e in
+    let fs : flag a ≡ flag b = cc in
+    let ab = flag-once a b fs in cc
+scan-once (scanned.Scanned a f c p) (scanned.Refused k o) e = let p = parts e in cc
+scan-once (scanned.Refused n p) (scanned.Scanned b g d q) e = let p = parts e in cc
+scan-once (scanned.Refused n p) (scanned.Refused k o) e = let p = parts e in cc
+
+first-once : (r s : FirstAnswer) → firstTold r ≡ firstTold s → r ≡ s
+first-once (first.Words w) (first.Words v) e = let p = parts e in cc
+first-once (first.Words w) (first.Refused k o) e = let p = parts e in cc
+first-once (first.Refused n p) (first.Words v) e = let p = parts e in cc
+first-once (first.Refused n p) (first.Refused k o) e = let p = parts e in cc
+
+next-once : (r s : NextAnswer) → nextTold r ≡ nextTold s → r ≡ s
+next-once next.End next.End e = refl
+next-once next.End (next.Words v) e = let p = parts e in cc
+next-once next.End (next.Refused k o) e = let p = parts e in cc
+next-once (next.Words w) next.End e = let p = parts e in cc
+next-once (next.Words w) (next.Words v) e = let p = parts e in cc
+next-once (next.Words w) (next.Refused k o) e = let p = parts e in cc
+next-once (next.Refused n p) next.End e = let p = parts e in cc
+next-once (next.Refused n p) (next.Words v) e = let p = parts e in cc
+next-once (next.Refused n p) (next.Refused k o) e = let p = parts e in cc
+
+book-once : (r s : BookAnswer) → bookTold r ≡ bookTold s → r ≡ s
+book-once (book.Blocks w n) (book.Blocks v k) e = let p = parts e in cc
+book-once (book.Blocks w n) (book.Refused k o) e = let p = parts e in cc
+book-once (book.Refused n p) (book.Blocks v k) e = let p = parts e in cc
+book-once (book.Refused n p) (book.Refused k o) e = let p = parts e in cc
+
+module _ (m d tb : List ℕ) where
+  -- what build's contract allows, and so on
+  abbrev BuildAllows : BuildAnswer → List ℕ → Type 0
+  BuildAllows r table = (buildTold r ≡ buildTells m d tb) × (table ≡ buildLeaves m d tb)
+
+  pub build-decides : (r s : BuildAnswer) (t u : List ℕ) → BuildAllows r t → BuildAllows s u → (r ≡ s) × (t ≡ u)
+  build-decides r s t u p q = (build-once r s (p .0 ∙ sym (q .0)), p .1 ∙ sym (q .1))
+
+  module _ (text ss cs : List ℕ) where
+    abbrev ScanAllows : ScanAnswer → List ℕ → List ℕ → Type 0
+    ScanAllows r states counts =
+        (scanTold r ≡ scanTells m d tb text ss cs)
+        × (states ≡ scanLeavesStates m d tb text ss cs)
+        × (counts ≡ scanLeavesCounts m d tb text ss cs)
+
+    pub scan-decides : (r s : ScanAnswer) (t u v w : List ℕ) → ScanAllows r t v → ScanAllows s u w → (r ≡ s) × (t ≡ u) × (v ≡ w)
+    scan-decides r s t u v w p q = (scan-once r s (p .0 ∙ sym (q .0)), p .1 ∙ sym (q .1), p .2 ∙ sym (q .2))
+
+    module _ (buffer : List ℕ) where
+      abbrev FirstAllows : FirstAnswer → List ℕ → Type 0
+      FirstAllows r reading = (firstTold r ≡ firstTells m d tb text ss cs buffer) × (reading ≡ firstLeaves m d tb text ss cs buffer)
+
+      pub first-decides : (r s : FirstAnswer) (t u : List ℕ) → FirstAllows r t → FirstAllows s u → (r ≡ s) × (t ≡ u)
+      first-decides r s t u p q = (first-once r s (p .0 ∙ sym (q .0)), p .1 ∙ sym (q .1))
+
+      module _ (k : ℕ) where
+        abbrev NextAllows : NextAnswer → List ℕ → Type 0
+        NextAllows r reading = (nextTold r ≡ nextTells m d tb text ss cs buffer k) × (reading ≡ nextLeaves m d tb text ss cs buffer k)
+
+        pub next-decides : (r s : NextAnswer) (t u : List ℕ) → NextAllows r t → NextAllows s u → (r ≡ s) × (t ≡ u)
+        next-decides r s t u p q = (next-once r s (p .0 ∙ sym (q .0)), p .1 ∙ sym (q .1))
+
+pub book-decides : (m b : List ℕ) (r s : BookAnswer) → bookTold r ≡ bookTells m b → bookTold s ≡ bookTells m b → r ≡ s
+book-decides m b r s p q = book-once r s (p ∙ sym q)

@@ -1,0 +1,6 @@
+pub mod Verdicts
+pub mod Cleared
+pub mod Called
+pub mod Listings
+pub mod Determined
+pub mod Demands

@@ -1,0 +1,110 @@
+-- What first and next tell and leave, by the reading that is to be written.
+use mathlib.Core.Path.{_≡_, refl, sym, ap, _∙_}
+use mathlib.Core.Bool.{Bool, true, false}
+use mathlib.Core.Option.{Option, none, some}
+use mathlib.Core.List.{List, [], _∷_, head?, List·Memᴰ, List·Memᴰ·head, List·Memᴰ·tail}
+use Prim.Native.Nat.{ℕ, zero, suc, _≤_, _<_}
+use native.Mathlib.Omega.{arith}
+use lib.Dec.{leb}
+use lib.ListN.{length, getElem?, length-append}
+use Rattle.meaning.specs.Words.{if_then_else_, Word, Words, Reading, word, joined}
+use Rattle.meaning.specs.Table.{over}
+use Rattle.meaning.specs.Readings.{readings}
+use Rattle.meaning.specs.Listing.{nextReading}
+use Rattle.meaning.specs.Plain.{Dictionary, IsReading}
+use Rattle.meaning.proofs.Readings.{readings-are}
+use Rattle.meaning.proofs.Next.{next-of-reading}
+use Rattle.listing.specs.Answers.{answer, left}
+use Rattle.listing.specs.declared.listed.Listed.{Listed}
+use Rattle.listing.specs.declared.listed.Listed.the-variants as list
+use Rattle.orgamish.specs.Order.{_andThen_, unreadRefusal, fitRefusal}
+use Rattle.orgamish.specs.Calls.{toldBy, leftBy, lengthOf, listed}
+
+-- the refusal's number, where having no reading is refused as k
+abbrev pub numberBy : ℕ → Listed → ℕ
+numberBy k list.Nothing = k
+numberBy k list.Short = 14
+numberBy k (list.Words n) = 0
+
+abbrev pub valuesBy : Listed → List ℕ
+valuesBy list.Nothing = 0 ∷ []
+valuesBy list.Short = []
+valuesBy (list.Words n) = 1 ∷ n ∷ []
+
+pub first-number : (o : Option Reading) (b : List ℕ) → unreadRefusal o andThen fitRefusal o b ≡ numberBy 12 (answer o b)
+first-number none b = refl
+first-number (some ws) b = go (leb (length ws) (length b))
+  where
+    go : (q : Bool) → (if q then 0 else 14) ≡ numberBy 12 (if q then list.Words (length ws) else list.Short)
+    go true = refl
+    go false = refl
+
+pub next-number : (o : Option Reading) (b : List ℕ) → fitRefusal o b ≡ numberBy 0 (answer o b)
+next-number none b = refl
+next-number (some ws) b = go (leb (length ws) (length b))
+  where
+    go : (q : Bool) → (if q then 0 else 14) ≡ numberBy 0 (if q then list.Words (length ws) else list.Short)
+    go true = refl
+    go false = refl
+
+pub listing-told : (k : ℕ) (o : Option Reading) (b : List ℕ)
+    → toldBy (numberBy k (answer o b)) (valuesBy (answer o b)) ≡ toldBy (numberBy k (answer o b)) (lengthOf o)
+listing-told k none b = refl
+listing-told k (some ws) b = go (leb (length ws) (length b))
+  where
+    go : (q : Bool) → let r = if q then list.Words (length ws) else list.Short in
+        toldBy (numberBy k r) (valuesBy r) ≡ toldBy (numberBy k r) (1 ∷ length ws ∷ [])
+    go true = refl
+    go false = refl
+
+pub listing-left : (k : ℕ) (o : Option Reading) (b : List ℕ) → left o b ≡ leftBy (numberBy k (answer o b)) (listed o b) b
+listing-left zero none b = refl
+listing-left (suc k) none b = refl
+listing-left k (some ws) b = go (leb (length ws) (length b))
+  where
+    go : (q : Bool) → (if q then over ws b else b)
+        ≡ leftBy (numberBy k (if q then list.Words (length ws) else list.Short)) (over ws b) b
+    go true = refl
+    go false = refl
+
+-- the reading whose words were counted
+pub answer-words : (o : Option Reading) (b : List ℕ) {n : ℕ} → list.Words n ≡ answer o b → (ws : Reading) × (o ≡ some ws) × (n ≡ length ws)
+answer-words none b e = let z : _≡_ {A = ℕ} 0 1 = cc in absurd (omega arith)
+answer-words (some ws) b {n} e = go (leb (length ws) (length b)) e
+  where
+    go : (q : Bool) → list.Words n ≡ (if q then list.Words (length ws) else list.Short)
+        → (vs : Reading) × (some ws ≡ some vs) × (n ≡ length vs)
+    go true f = (ws, refl, cc)
+    go false f = let z : _≡_ {A = ℕ} 0 1 = cc in absurd (omega arith)
+
+-- no reading has more words than the text has letters
+joined-long : (X : Words) → Dictionary X → (ns : Reading) → ((n : ℕ) → List·Memᴰ n ns → n < length X) → length ns ≤ length (joined X ns)
+joined-long X D [] h = omega arith
+joined-long X D (n ∷ ns) h =
+    omega (
+      arith,
+      length-append (word X n) (joined X ns),
+      D .nonempty n (h n (List·Memᴰ·head refl)),
+      joined-long X D ns (λ m i. h m (List·Memᴰ·tail i)),
+    )
+
+pub reading-short : (X : Words) → Dictionary X → (t : Word) (ns : Reading) → IsReading X t ns → length ns ≤ length t
+reading-short X D t ns r = omega (arith, joined-long X D ns (r .below), ap length (r .joins))
+
+head-mem : {A : Type 0} (l : List A) (x : A) → head? l ≡ some x → List·Memᴰ x l
+head-mem [] x e = let z : _≡_ {A = ℕ} 0 1 = cc in absurd (omega arith)
+head-mem (y ∷ l) x e = let q : x ≡ y = cc in List·Memᴰ·head q
+
+elem-mem : {A : Type 0} (l : List A) (i : ℕ) (x : A) → getElem? l i ≡ some x → List·Memᴰ x l
+elem-mem [] i x e = let z : _≡_ {A = ℕ} 0 1 = cc in absurd (omega arith)
+elem-mem (y ∷ l) zero x e = let q : x ≡ y = cc in List·Memᴰ·head q
+elem-mem (y ∷ l) (suc i) x e = List·Memᴰ·tail (elem-mem l i x e)
+
+pub first-fits : (X : Words) → Dictionary X → (t : Word) (ws : Reading) → head? (readings X t) ≡ some ws → length ws ≤ length t
+first-fits X D t ws e = reading-short X D t ws (readings-are X D t ws .0 (head-mem (readings X t) ws e))
+
+pub next-fits : (X : Words) → Dictionary X → (t : Word) (ns ws : Reading) → IsReading X t ns → nextReading X t ns ≡ some ws
+    → length ws ≤ length t
+next-fits X D t ns ws r e =
+    let (k, h, at, next) = next-of-reading X D t ns r in
+    reading-short X D t ws (readings-are X D t ws .0 (elem-mem (readings X t) (suc k) ws (sym next ∙ e)))

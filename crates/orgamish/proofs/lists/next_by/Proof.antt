@@ -1,0 +1,289 @@
+-- `orgamish::lists::next_by`: the tests, then the next reading.
+use mathlib.Core.Path.{_≡_, refl, sym, ap, _∙_}
+use mathlib.Core.Bool.{Bool, true, false}
+use mathlib.Core.Option.{Option}
+use mathlib.Core.List.{List}
+use Prim.Native.Nat.{ℕ, _≤_}
+use native.Mathlib.Omega.{arith}
+use borrow.Author.Needs.{needs}
+use borrow.Author.Tests.{lt-ltb, le-ltb, not-true, not-false}
+use denote.Ref.{now}
+use lib.Dec.{ltb}
+use lib.ListN.{length, take}
+use Rattle.meaning.specs.Words.{if_then_else_, Word, Words, Reading}
+use Rattle.meaning.specs.Listing.{isReading, nextReading}
+use Rattle.meaning.specs.Plain.{Allowed}
+use Rattle.meaning.proofs.Readings.{isReading-is}
+use Rattle.records.specs.Letters.{mapped}
+use Rattle.records.specs.Run.{Run, dictionary}
+use Rattle.columns.proofs.Entry.{mapped-size}
+use Rattle.listing.specs.Positions.{Whole, Given, Giving}
+use Rattle.listing.specs.Answers.{Answers, answer}
+use Rattle.listing.specs.declared.listed.Listed.{Listed}
+use Rattle.orgamish.specs.Order.{_andThen_, listRefusal, givenRefusal, fitRefusal}
+use Rattle.orgamish.specs.Calls.{toldBy, lengthOf, listed, tells, leaves}
+use Rattle.orgamish.proofs.Verdicts.{Passes, passes, passed-allowed, refused-before}
+use Rattle.orgamish.proofs.Cleared.{scanned, short-text}
+use Rattle.orgamish.proofs.Called.{Came, came-tells, came-leaves, tells-refused, leaves-refused, then-comes}
+use Rattle.orgamish.proofs.Listings.{numberBy, valuesBy, next-number, listing-told, listing-left, answer-words, next-fits}
+use Rattle.orgamish.proofs.lists.next_by.Statement.{statement}
+use Rattle.orgamish.proofs.lists.next_by.Tie as tie
+
+abbrev begun : tie.After-judge-list → tie.Start
+begun c = c .before .before .before .before .before .before .before .before
+
+abbrev text : tie.Start → Word
+text s = mapped (now (s .args .map)) (now (s .args .text))
+
+abbrev buffer : tie.Start → List ℕ
+buffer s = now (s .args .reading)
+
+-- the given words
+abbrev given : tie.Start → Reading
+given s = take (s .args .given) (buffer s)
+
+abbrev columns : tie.Start → Words → ℕ
+columns s X = listRefusal X (now (s .args .table)) (text s) (now (s .args .states)) (now (s .args .counts))
+
+-- the reading that is to be written
+abbrev chosen : tie.Start → Words → Option Reading
+chosen s X = nextReading X (text s) (given s)
+
+abbrev rest : tie.Start → Words → ℕ
+rest s X = givenRefusal X (text s) (buffer s) (s .args .given) andThen fitRefusal (chosen s X) (buffer s)
+
+abbrev test : tie.Start → Words → ℕ
+test s X = columns s X andThen rest s X
+
+abbrev run : tie.Start → Run
+run s = dictionary (now (s .args .map)) (now (s .args .dict))
+
+abbrev values : tie.Start → Words → List ℕ
+values s X = lengthOf (chosen s X)
+
+abbrev after : tie.Start → Words → List ℕ
+after s X = listed (chosen s X) (buffer s)
+
+abbrev judged : tie.After-enum-told → tie.After-judge-list
+judged c = c .before .before
+
+found : (c : tie.After-enum-told) → let s = begun (judged c) in Passes (columns s) (run s)
+found c =
+    let s = begun (judged c) in
+    passes (columns s) (run s) (sym (c .enum-told .given .1) ∙ judged c .judge-list .ensures)
+
+good : (c : tie.After-enum-told) → Allowed (found c .X)
+good c =
+    let d = judged c in
+    let a = begun d .args in
+    passed-allowed (now (a .map)) (now (a .dict))
+    (λ x. omega (arith, d .before .before .before .before .before .before .before .shared-slice-known .given x)) (found c)
+
+whole : (c : tie.After-enum-told) → let s = begun (judged c) in
+    Whole (found c .X) (text s) (now (s .args .table)) (now (s .args .states)) (now (s .args .counts)) (length (now (s .args .text)))
+whole c =
+    let a = begun (judged c) .args in
+    record { scanned = scanned (good c) (found c .clear); long = sym (mapped-size (now (a .map)) (now (a .text))) }
+
+came : (c : tie.After-enum-told) {n : ℕ} → let s = begun (judged c) in rest s (found c .X) ≡ n → Came (test s) (run s) (found c .X) n
+came c e =
+    let s = begun (judged c) in
+    let X = found c .X in
+    record { end = found c .end; is = found c .is; comes = then-comes (columns s X) (rest s X) (found c .clear) e }
+
+-- what the test of the given words comes to
+abbrev restBy : tie.Start → Words → Bool → Bool → ℕ
+restBy s X long reads = (if long then 13 else if reads then 0 else 13) andThen fitRefusal (chosen s X) (buffer s)
+
+by-tests : (s : tie.Start) (X : Words) {long reads : Bool} → ltb (length (buffer s)) (s .args .given) ≡ long → isReading X (text s) (given s) ≡ reads
+    → rest s X ≡ restBy s X long reads
+by-tests s X {long} e f =
+    ap (λ (q : Bool). restBy s X q (isReading X (text s) (given s))) e ∙ ap (restBy s X long) f
+
+room : (c : tie.Else1) → let s = begun (judged (c .before)) in s .args .given ≤ length (buffer s)
+room c = omega (arith, c .if1 .left)
+
+offered : (c : tie.Else1) → let s = begun (judged (c .before)) in
+    Given (found (c .before) .X) (text s) (now (s .args .table)) (now (s .args .states)) (length (now (s .args .text))) (buffer s) (s .args .given)
+offered c =
+    let w = whole (c .before) in
+    record {
+      stated = record { table = w .scanned .table; states = w .scanned .columns .states };
+      long = w .long;
+      room = room c;
+    }
+
+abbrev looked : tie.After-is-reading → tie.Else1
+looked c = c .before .before
+
+reads : (c : tie.Else2) → let k = looked (c .before) .before in
+    let s = begun (judged k) in isReading (found k .X) (text s) (given s) ≡ true
+reads c =
+    let d = c .before in
+    sym (d .is-reading .ensures _ _ (offered (looked d))) ∙ not-false _ (c .if2 .left)
+
+giving : (c : tie.Else2) → let k = looked (c .before) .before in
+    let s = begun (judged k) in
+    Giving (found k .X) (text s) (now (s .args .table)) (now (s .args .states)) (now (s .args .counts)) (length (now (s .args .text)))
+    (buffer s) (s .args .given)
+giving c =
+    let l = looked (c .before) in
+    let k = l .before in
+    let s = begun (judged k) in
+    record { whole = whole k; room = room l; reads = isReading-is (found k .X) (text s) (given s) .0 (reads c) }
+
+abbrev passedBy : tie.After-next → tie.Else2
+passedBy c = c .before .before
+
+abbrev asked : tie.After-next → tie.After-enum-told
+asked c = looked (passedBy c .before) .before
+
+comes : (c : tie.After-next) → let s = begun (judged (asked c)) in
+    Came (test s) (run s) (found (asked c) .X) (numberBy 0 (answer (chosen s (found (asked c) .X)) (buffer s)))
+comes c =
+    let l = looked (passedBy c .before) in
+    let s = begun (judged (l .before)) in
+    let X = found (l .before) .X in
+    came (l .before)
+    (by-tests s X (le-ltb (length (buffer s)) (s .args .given) (room l)) (reads (passedBy c)) ∙ next-number (chosen s X) (buffer s))
+
+-- by what the listing told
+told : (c : tie.After-next) (r : Listed) → let s = begun (judged (asked c)) in
+    r ≡ answer (chosen s (found (asked c) .X)) (buffer s) → toldBy (numberBy 0 r) (valuesBy r) ≡ tells (test s) (values s) (run s)
+told c r e =
+    let k = asked c in
+    let s = begun (judged k) in
+    ap (λ (q : Listed). toldBy (numberBy 0 q) (valuesBy q)) e
+    ∙ listing-told 0 (chosen s (found k .X)) (buffer s)
+    ∙ came-tells (comes c) (values s)
+
+answers : (c : tie.After-next) → let s = begun (judged (asked c)) in
+    Answers (chosen s (found (asked c) .X)) (buffer s) (c .next .last .1 .1 .1 .1 .0) (c .next .result)
+answers c = c .next .ensures _ _ (giving (passedBy c))
+
+kept : (c : tie.After-next) → let s = begun (judged (asked c)) in
+    c .next .last .1 .1 .1 .1 .0 ≡ leaves (test s) (after s) (buffer s) (run s)
+kept c =
+    let k = asked c in
+    let s = begun (judged k) in
+    answers c .buffer ∙ listing-left 0 (chosen s (found k .X)) (buffer s) ∙ came-leaves (comes c) (after s) (buffer s)
+
+judge-list-requires : tie.Need-judge-list-requires
+judge-list-requires c κs = search needs
+
+enum-known-number : tie.Need-enum-known-number
+enum-known-number c = search needs
+
+enum-told : tie.Need-enum-told
+enum-told c = search needs
+
+returns : tie.Need-returns
+returns c =
+    let k = c .before in
+    let s = begun (judged k) in
+    let X = found k .X in
+    let w = came k (by-tests s X (lt-ltb (length (buffer s)) (s .args .given) (omega (arith, c .if1 .taken))) refl) in
+    (came-tells w (values s), came-leaves w (after s) (buffer s))
+
+is-reading-requires : tie.Need-is-reading-requires
+is-reading-requires c κs =
+    let l = c .before in (found (l .before) .X, text (begun (judged (l .before))), offered l)
+
+same-length : tie.Need-same-length
+same-length c = search needs
+
+returns-2 : tie.Need-returns-2
+returns-2 c =
+    let d = c .before in
+    let l = looked d in
+    let k = l .before in
+    let s = begun (judged k) in
+    let X = found k .X in
+    let no : isReading X (text s) (given s) ≡ false = sym (d .is-reading .ensures _ _ (offered l)) ∙ not-true _ (c .if2 .taken) in
+    let w = came k (by-tests s X (le-ltb (length (buffer s)) (s .args .given) (room l)) no) in
+    (came-tells w (values s), came-leaves w (after s) (buffer s))
+
+next-requires : tie.Need-next-requires
+next-requires c κs =
+    let e = c .before in
+    let k = looked (e .before) .before in
+    (found k .X, text (begun (judged k)), giving e)
+
+enum-told-2 : tie.Need-enum-told-2
+enum-told-2 c = search needs
+
+enum-told-3 : tie.Need-enum-told-3
+enum-told-3 c = search needs
+
+enum-known-words : tie.Need-enum-known-words
+enum-known-words c = search needs
+
+cast-t23 : tie.Need-cast-t23
+cast-t23 c =
+    let d = c .before .before .before .before .before in
+    let k = asked d in
+    let s = begun (judged k) in
+    let X = found k .X in
+    let a = s .args in
+    let (ws, is, n) = answer-words (chosen s X) (buffer s) (sym (c .before .words .given .1) ∙ answers d .answers) in
+    omega (
+      arith,
+      n,
+      next-fits X (good k .storable .dictionary) (text s) (given s) ws (giving (passedBy d) .reads) is,
+      short-text X (now (a .table)) (text s) (now (a .states)) (now (a .counts)) (found k .clear),
+    )
+
+returns-3 : tie.Need-returns-3
+returns-3 c =
+    let d = c .before .before .before in
+    let s = begun d in
+    let e = refused-before (columns s) (rest s) (run s) (sym (c .before .number .given .1) ∙ d .judge-list .ensures) in
+    (tells-refused (test s) (values s) (run s) e, leaves-refused (test s) (after s) (buffer s) (run s) e)
+
+same-length-2 : tie.Need-same-length-2
+same-length-2 c = search needs
+
+returns-4 : tie.Need-returns-4
+returns-4 c =
+    let d = c .before .before .before .before in
+    (told d _ (sym (c .enum-told2 .given .1) ∙ answers d .answers), kept d)
+
+same-length-3 : tie.Need-same-length-3
+same-length-3 c = search needs
+
+returns-5 : tie.Need-returns-5
+returns-5 c =
+    let d = c .before .before .before .before in
+    (told d _ (sym (c .enum-told3 .given .1) ∙ answers d .answers), kept d)
+
+same-length-4 : tie.Need-same-length-4
+same-length-4 c = search needs
+
+returns-6 : tie.Need-returns-6
+returns-6 c =
+    let d = c .before .before .before .before .before in
+    (told d _ (sym (c .before .words .given .1) ∙ answers d .answers), kept d)
+
+pub next-by-spec : {M : Type 1} → statement M
+next-by-spec =
+    tie.close
+    (tie.spec
+    judge-list-requires
+    enum-known-number
+    enum-told
+    returns
+    is-reading-requires
+    same-length
+    returns-2
+    next-requires
+    enum-told-2
+    enum-told-3
+    enum-known-words
+    cast-t23
+    returns-3
+    same-length-2
+    returns-4
+    same-length-3
+    returns-5
+    same-length-4
+    returns-6)

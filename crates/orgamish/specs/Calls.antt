@@ -1,0 +1,104 @@
+-- What each call tells and leaves, for all bytes and buffers.
+use mathlib.Core.Bool.{Bool, true, false}
+use mathlib.Core.Option.{Option, none, some}
+use mathlib.Core.List.{List, [], _∷_, head?}
+use Prim.Native.Nat.{ℕ, zero, suc}
+use lib.ListN.{length, take}
+use Rattle.meaning.specs.Words.{Words, Reading}
+use Rattle.meaning.specs.Automaton.{states, longestChain}
+use Rattle.meaning.specs.Table.{table, over}
+use Rattle.meaning.specs.Readings.{readings, accepted, countAt, stateColumn, countColumn, probes, farthest}
+use Rattle.meaning.specs.Listing.{nextReading}
+use Rattle.records.specs.Letters.{mapped}
+use Rattle.records.specs.Run.{Run, ran, refused, dictionary}
+use Rattle.records.specs.Book.{Opened, opened, shut, book}
+use Rattle.records.specs.Told.{Told, refusal, answer}
+use Rattle.orgamish.specs.Order.{buildRefusal, scanRefusal, firstRefusal, nextRefusal}
+
+-- a refusal of that number, or the values where it is 0
+abbrev pub toldBy : ℕ → List ℕ → Told
+toldBy zero values = answer values
+toldBy (suc n) values = refusal (suc n) 0
+
+-- a lent buffer afterwards: a refusal leaves it as it was
+abbrev pub leftBy : ℕ → List ℕ → List ℕ → List ℕ
+leftBy zero after before = after
+leftBy (suc n) after before = before
+
+-- the same by the dictionary, which is tested first
+abbrev pub tells : (Words → ℕ) → (Words → List ℕ) → Run → Told
+tells test values (ran X end) = toldBy (test X) (values X)
+tells test values (refused number place) = refusal number place
+
+abbrev pub leaves : (Words → ℕ) → (Words → List ℕ) → List ℕ → Run → List ℕ
+leaves test after before (ran X end) = leftBy (test X) (after X) before
+leaves test after before (refused number place) = before
+
+abbrev pub flag : Bool → ℕ
+flag true = 1
+flag false = 0
+
+-- how many readings are written, none or one, and its number of words
+abbrev pub lengthOf : Option Reading → List ℕ
+lengthOf none = 0 ∷ []
+lengthOf (some ws) = 1 ∷ length ws ∷ []
+
+abbrev pub listed : Option Reading → List ℕ → List ℕ
+listed none buffer = buffer
+listed (some ws) buffer = over ws buffer
+
+-- the letter map m, the dictionary d, the table tb
+module _ (m d tb : List ℕ) where
+  abbrev pub buildTells : Told
+  buildTells =
+      tells (λ X. buildRefusal X tb) (λ X. length X ∷ length (states X) ∷ longestChain X ∷ []) (dictionary m d)
+
+  abbrev pub buildLeaves : List ℕ
+  buildLeaves = leaves (λ X. buildRefusal X tb) (λ X. over (table X) tb) tb (dictionary m d)
+
+  -- the text's bytes u, the columns ss and cs
+  module _ (u ss cs : List ℕ) where
+    abbrev pub scanTells : Told
+    scanTells =
+        tells (λ X. scanRefusal X tb (mapped m u) ss cs)
+        (λ X. flag (accepted X (mapped m u)) ∷ farthest X (mapped m u) ∷ countAt X (mapped m u) (length (mapped m u)) ∷ probes X (mapped m u) ∷ [])
+        (dictionary m d)
+
+    abbrev pub scanLeavesStates : List ℕ
+    scanLeavesStates =
+        leaves (λ X. scanRefusal X tb (mapped m u) ss cs) (λ X. over (stateColumn X (mapped m u)) ss) ss (dictionary m d)
+
+    abbrev pub scanLeavesCounts : List ℕ
+    scanLeavesCounts =
+        leaves (λ X. scanRefusal X tb (mapped m u) ss cs) (λ X. over (countColumn X (mapped m u)) cs) cs (dictionary m d)
+
+    -- the reading buffer
+    module _ (buffer : List ℕ) where
+      abbrev pub firstTells : Told
+      firstTells =
+          tells (λ X. firstRefusal X tb (mapped m u) ss cs buffer) (λ X. lengthOf (head? (readings X (mapped m u)))) (dictionary m d)
+
+      abbrev pub firstLeaves : List ℕ
+      firstLeaves =
+          leaves (λ X. firstRefusal X tb (mapped m u) ss cs buffer) (λ X. listed (head? (readings X (mapped m u))) buffer) buffer
+          (dictionary m d)
+
+      -- of which k entries are given
+      module _ (k : ℕ) where
+        abbrev pub nextTells : Told
+        nextTells =
+            tells (λ X. nextRefusal X tb (mapped m u) ss cs buffer k)
+            (λ X. lengthOf (nextReading X (mapped m u) (take k buffer))) (dictionary m d)
+
+        abbrev pub nextLeaves : List ℕ
+        nextLeaves =
+            leaves (λ X. nextRefusal X tb (mapped m u) ss cs buffer k)
+            (λ X. listed (nextReading X (mapped m u) (take k buffer)) buffer) buffer (dictionary m d)
+
+-- the book check, which leaves nothing changed
+abbrev pub openedTells : Opened → Told
+openedTells (opened X start T) = answer (length X ∷ length T ∷ [])
+openedTells (shut number place) = refusal number place
+
+abbrev pub bookTells : List ℕ → List ℕ → Told
+bookTells m b = openedTells (book m b)

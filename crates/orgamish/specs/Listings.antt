@@ -1,0 +1,35 @@
+-- A listing: first, and then next until nothing more is written, the buffer untouched between the calls.
+use mathlib.Core.List.{List, [], _∷_}
+use Prim.Native.Nat.{ℕ, zero, suc}
+use lib.ListN.{take}
+use Rattle.meaning.specs.Words.{Reading}
+use Rattle.records.specs.Told.{Told, answer}
+use Rattle.orgamish.specs.Calls.{firstTells, firstLeaves, nextTells, nextLeaves}
+
+-- the readings seen in the buffer, one after each call, and what the last call told
+pub record Heard : Type 0 where
+  pub seen : List Reading
+  pub last : Told
+
+abbrev pub heard : List Reading → Told → Heard
+heard seen last = record { seen = seen; last = last }
+
+-- the call told so: where it wrote a reading of n words, the listing goes on from there
+abbrev pub goOn : (ℕ → Heard) → Told → List ℕ → Heard
+goOn more told [] = heard [] told
+goOn more told (written ∷ []) = heard [] told
+goOn more told (written ∷ n ∷ rest) = more n
+
+module _ (m d tb u ss cs : List ℕ) where
+  -- the first k entries of the buffer are a reading; at most f calls more
+  abbrev pub listingFrom : ℕ → List ℕ → ℕ → Heard
+  listingFrom zero buffer k = heard (take k buffer ∷ []) (answer [])
+  listingFrom (suc f) buffer k =
+      let told = nextTells m d tb u ss cs buffer k in
+      let more = goOn (listingFrom f (nextLeaves m d tb u ss cs buffer k)) told (told .values) in
+      heard (take k buffer ∷ more .seen) (more .last)
+
+  abbrev pub listing : ℕ → List ℕ → Heard
+  listing f buffer =
+      let told = firstTells m d tb u ss cs buffer in
+      goOn (listingFrom f (firstLeaves m d tb u ss cs buffer)) told (told .values)

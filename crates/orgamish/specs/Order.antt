@@ -1,0 +1,80 @@
+-- The order of refusals: a chain of tests, of which the first that fails decides. 0 is no refusal.
+use mathlib.Core.Option.{Option, none, some}
+use mathlib.Core.List.{List, head?}
+use Prim.Native.Nat.{ℕ, zero, suc}
+use lib.Dec.{leb, ltb}
+use lib.ListN.{length, take}
+use Rattle.meaning.specs.Numbers.{longestText}
+use Rattle.meaning.specs.Words.{if_then_else_, Word, Words, Reading}
+use Rattle.meaning.specs.Readings.{readings}
+use Rattle.meaning.specs.Listing.{isReading, nextReading}
+use Rattle.automaton.specs.Lending.{tooShort, judged}
+use Rattle.automaton.specs.declared.lending.Judged.{Judged}
+use Rattle.automaton.specs.declared.lending.Judged.the-variants as judge
+use Rattle.columns.specs.Scans.{areColumns}
+
+infixr 20 _andThen_
+abbrev pub _andThen_ : ℕ → ℕ → ℕ
+zero andThen n = n
+suc m andThen n = suc m
+
+-- 7, 8
+abbrev pub rowsNumber : Judged → ℕ
+rowsNumber judge.Short = 7
+rowsNumber judge.Other = 8
+rowsNumber judge.Right = 0
+
+abbrev pub tableRefusal : Words → List ℕ → ℕ
+tableRefusal X tb = rowsNumber (judged X tb)
+
+-- 9
+abbrev pub textRefusal : Word → ℕ
+textRefusal t = if ltb longestText (length t) then 9 else 0
+
+-- 10
+abbrev pub roomRefusal : Word → List ℕ → List ℕ → ℕ
+roomRefusal t ss cs =
+    if leb (length ss) (length t) then 10
+    else if leb (length cs) (length t) then 10
+    else 0
+
+-- 11
+abbrev pub columnsRefusal : Words → Word → List ℕ → List ℕ → ℕ
+columnsRefusal X t ss cs = if areColumns X t ss cs then 0 else 11
+
+-- 12
+abbrev pub unreadRefusal : Option Reading → ℕ
+unreadRefusal none = 12
+unreadRefusal (some ws) = 0
+
+-- 13: k entries of the buffer are given
+abbrev pub givenRefusal : Words → Word → List ℕ → ℕ → ℕ
+givenRefusal X t buffer k =
+    if ltb (length buffer) k then 13
+    else if isReading X t (take k buffer) then 0
+    else 13
+
+-- 14, where there is a reading to be written
+abbrev pub fitRefusal : Option Reading → List ℕ → ℕ
+fitRefusal none buffer = 0
+fitRefusal (some ws) buffer = if leb (length ws) (length buffer) then 0 else 14
+
+-- build
+abbrev pub buildRefusal : Words → List ℕ → ℕ
+buildRefusal X tb = if tooShort X tb then 7 else 0
+
+-- scan
+abbrev pub scanRefusal : Words → List ℕ → Word → List ℕ → List ℕ → ℕ
+scanRefusal X tb t ss cs = tableRefusal X tb andThen textRefusal t andThen roomRefusal t ss cs
+
+-- first and next, before they look at a reading
+abbrev pub listRefusal : Words → List ℕ → Word → List ℕ → List ℕ → ℕ
+listRefusal X tb t ss cs = scanRefusal X tb t ss cs andThen columnsRefusal X t ss cs
+
+abbrev pub firstRefusal : Words → List ℕ → Word → List ℕ → List ℕ → List ℕ → ℕ
+firstRefusal X tb t ss cs buffer =
+    listRefusal X tb t ss cs andThen unreadRefusal (head? (readings X t)) andThen fitRefusal (head? (readings X t)) buffer
+
+abbrev pub nextRefusal : Words → List ℕ → Word → List ℕ → List ℕ → List ℕ → ℕ → ℕ
+nextRefusal X tb t ss cs buffer k =
+    listRefusal X tb t ss cs andThen givenRefusal X t buffer k andThen fitRefusal (nextReading X t (take k buffer)) buffer

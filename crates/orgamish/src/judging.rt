@@ -1,0 +1,105 @@
+// The tests that the calls share, in document 01's order: dictionary, 7, 8, 9, 10, 11.
+ghost use mathlib.Core.Path.{_≡_};
+ghost use Rattle.records.specs.Letters.{mapped};
+ghost use Rattle.records.specs.Run.{dictionary};
+ghost use Rattle.orgamish.specs.Order.{tableRefusal, scanRefusal, listRefusal};
+ghost use Rattle.orgamish.specs.Judging.{verdict};
+use automaton::Judged;
+use automaton::judge_table;
+use columns::are_columns;
+use records::Dictionary;
+use records::check_dictionary;
+
+// Nothing is refused so far; or a refusal.
+pub enum Verdict {
+    Passed,
+    Refused { number: u16, place: u16 },
+}
+
+pub const LONGEST_TEXT: usize = 4096;
+
+// The dictionary, 7, 8.
+pub fn judge_rows(map: &[u8], dict: &[u8], table: &[u16]) -> Verdict
+    ensures { λ r. ⌜ r ≡ verdict (λ X. tableRefusal X (now (table .entry))) (dictionary (now (map .entry)) (now (dict .entry))) ⌝ }
+{
+    match check_dictionary(map, dict) {
+        Dictionary::Refused { number, place } => Verdict::Refused { number, place },
+        Dictionary::Words {
+            words,
+            letters: _,
+            end: _,
+        } => match judge_table(map, dict, words as usize, table) {
+            Judged::Short => Verdict::Refused {
+                number: 7,
+                place: 0,
+            },
+            Judged::Other => Verdict::Refused {
+                number: 8,
+                place: 0,
+            },
+            Judged::Right => Verdict::Passed,
+        },
+    }
+}
+
+// .. 9, 10.
+pub fn judge_scan(
+    map: &[u8],
+    dict: &[u8],
+    table: &[u16],
+    text: &[u8],
+    states: &[u16],
+    counts: &[u64],
+) -> Verdict
+    ensures { λ r. ⌜ r ≡ verdict (λ X. scanRefusal X (now (table .entry)) (mapped (now (map .entry)) (now (text .entry))) (now (states .entry)) (now (counts .entry))) (dictionary (now (map .entry)) (now (dict .entry))) ⌝ }
+{
+    match judge_rows(map, dict, table) {
+        Verdict::Refused { number, place } => Verdict::Refused { number, place },
+        Verdict::Passed => {
+            if LONGEST_TEXT < text.len() {
+                return Verdict::Refused {
+                    number: 9,
+                    place: 0,
+                };
+            }
+            if states.len() <= text.len() {
+                return Verdict::Refused {
+                    number: 10,
+                    place: 0,
+                };
+            }
+            if counts.len() <= text.len() {
+                return Verdict::Refused {
+                    number: 10,
+                    place: 0,
+                };
+            }
+            Verdict::Passed
+        }
+    }
+}
+
+// .. 11.
+pub fn judge_list(
+    map: &[u8],
+    dict: &[u8],
+    table: &[u16],
+    text: &[u8],
+    states: &[u16],
+    counts: &[u64],
+) -> Verdict
+    ensures { λ r. ⌜ r ≡ verdict (λ X. listRefusal X (now (table .entry)) (mapped (now (map .entry)) (now (text .entry))) (now (states .entry)) (now (counts .entry))) (dictionary (now (map .entry)) (now (dict .entry))) ⌝ }
+{
+    match judge_scan(map, dict, table, text, states, counts) {
+        Verdict::Refused { number, place } => Verdict::Refused { number, place },
+        Verdict::Passed => {
+            if are_columns(map, table, text, states, counts) {
+                return Verdict::Passed;
+            }
+            Verdict::Refused {
+                number: 11,
+                place: 0,
+            }
+        }
+    }
+}

@@ -1,0 +1,19 @@
+// The public calls: each takes every input, ends, and is decided by its contract.
+mod answers;
+mod books;
+mod judging;
+mod lists;
+mod scans;
+mod tables;
+
+pub use answers::BookAnswer;
+pub use answers::BuildAnswer;
+pub use answers::FirstAnswer;
+pub use answers::NextAnswer;
+pub use answers::ScanAnswer;
+pub use books::block;
+pub use books::check_book;
+pub use lists::first;
+pub use lists::next;
+pub use scans::scan;
+pub use tables::build;

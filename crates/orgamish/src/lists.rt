@@ -1,0 +1,125 @@
+// First and next: the readings of a scanned text, one after the other.
+ghost use mathlib.Core.Path.{_≡_};
+ghost use Rattle.records.specs.Letters.{identity as identityOf};
+ghost use Rattle.orgamish.specs.Calls.{firstTells, firstLeaves, nextTells, nextLeaves};
+ghost use Rattle.orgamish.specs.Answers.{firstTold, nextTold};
+use crate::answers::FirstAnswer;
+use crate::answers::NextAnswer;
+use crate::judging::Verdict;
+use crate::judging::judge_list;
+use listing::Listed;
+use listing::first as first_reading;
+use listing::is_reading;
+use listing::next as next_reading;
+use records::identity;
+
+// Under a letter map.
+pub fn first_by(
+    map: &[u8],
+    dict: &[u8],
+    table: &[u16],
+    text: &[u8],
+    states: &[u16],
+    counts: &[u64],
+    reading: &mut [u16],
+) -> FirstAnswer
+    ensures { λ r. ⌜
+        (firstTold r ≡ firstTells (now (map .entry)) (now (dict .entry)) (now (table .entry)) (now (text .entry)) (now (states .entry)) (now (counts .entry)) (now (reading .entry)))
+        × (now (reading .exit) ≡ firstLeaves (now (map .entry)) (now (dict .entry)) (now (table .entry)) (now (text .entry)) (now (states .entry)) (now (counts .entry)) (now (reading .entry))) ⌝ }
+{
+    match judge_list(map, dict, table, text, states, counts) {
+        Verdict::Refused { number, place } => FirstAnswer::Refused { number, place },
+        Verdict::Passed => match first_reading(table, states, counts, text.len(), reading) {
+            Listed::Nothing => FirstAnswer::Refused {
+                number: 12,
+                place: 0,
+            },
+            Listed::Short => FirstAnswer::Refused {
+                number: 14,
+                place: 0,
+            },
+            Listed::Words(words) => FirstAnswer::Words {
+                words: words as u16,
+            },
+        },
+    }
+}
+
+// Under a letter map.
+pub fn next_by(
+    map: &[u8],
+    dict: &[u8],
+    table: &[u16],
+    text: &[u8],
+    states: &[u16],
+    counts: &[u64],
+    reading: &mut [u16],
+    given: usize,
+) -> NextAnswer
+    ensures { λ r. ⌜
+        (nextTold r ≡ nextTells (now (map .entry)) (now (dict .entry)) (now (table .entry)) (now (text .entry)) (now (states .entry)) (now (counts .entry)) (now (reading .entry)) given)
+        × (now (reading .exit) ≡ nextLeaves (now (map .entry)) (now (dict .entry)) (now (table .entry)) (now (text .entry)) (now (states .entry)) (now (counts .entry)) (now (reading .entry)) given) ⌝ }
+{
+    match judge_list(map, dict, table, text, states, counts) {
+        Verdict::Refused { number, place } => NextAnswer::Refused { number, place },
+        Verdict::Passed => {
+            if reading.len() < given {
+                return NextAnswer::Refused {
+                    number: 13,
+                    place: 0,
+                };
+            }
+            if !is_reading(table, states, text.len(), reading, given) {
+                return NextAnswer::Refused {
+                    number: 13,
+                    place: 0,
+                };
+            }
+            match next_reading(table, states, counts, text.len(), reading, given) {
+                Listed::Nothing => NextAnswer::End,
+                Listed::Short => NextAnswer::Refused {
+                    number: 14,
+                    place: 0,
+                },
+                Listed::Words(words) => NextAnswer::Words {
+                    words: words as u16,
+                },
+            }
+        }
+    }
+}
+
+// The first reading is written to the first entries of a lent buffer.
+pub fn first(
+    dict: &[u8],
+    table: &[u16],
+    text: &[u8],
+    states: &[u16],
+    counts: &[u64],
+    reading: &mut [u16],
+) -> FirstAnswer
+    ensures { λ r. ⌜
+        (firstTold r ≡ firstTells identityOf (now (dict .entry)) (now (table .entry)) (now (text .entry)) (now (states .entry)) (now (counts .entry)) (now (reading .entry)))
+        × (now (reading .exit) ≡ firstLeaves identityOf (now (dict .entry)) (now (table .entry)) (now (text .entry)) (now (states .entry)) (now (counts .entry)) (now (reading .entry))) ⌝ }
+{
+    let map = identity();
+    first_by(&map, dict, table, text, states, counts, reading)
+}
+
+// The reading after the one that the first entries are, so many as are given.
+pub fn next(
+    dict: &[u8],
+    table: &[u16],
+    text: &[u8],
+    states: &[u16],
+    counts: &[u64],
+    reading: &mut [u16],
+    given: usize,
+) -> NextAnswer
+    ensures { λ r. ⌜
+        (nextTold r ≡ nextTells identityOf (now (dict .entry)) (now (table .entry)) (now (text .entry)) (now (states .entry)) (now (counts .entry)) (now (reading .entry)) given)
+        × (now (reading .exit) ≡ nextLeaves identityOf (now (dict .entry)) (now (table .entry)) (now (text .entry)) (now (states .entry)) (now (counts .entry)) (now (reading .entry)) given) ⌝ }
+{
+    let map = identity();
+    next_by(&map, dict, table, text, states, counts, reading, given)
+}

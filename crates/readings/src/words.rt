@@ -1,0 +1,49 @@
+// The words of a book, and the table that they give.
+ghost use Prim.Native.Nat.{_≤_};
+ghost use lib.ListN.{length};
+ghost use Rattle.meaning.specs.Numbers.{mostWords, longestBook};
+use super::blocks::print_blocks;
+use super::lines::print_refusal;
+use orgamish::BuildAnswer;
+use orgamish::build;
+use records::Dictionary;
+use records::book_words;
+use records::identity;
+
+// Seven numbers for each of 2,048 states: the most that a dictionary gives.
+const TABLE_NUMBERS: usize = 14336;
+
+// The lines of a book whose block records start at an offset, after so many words.
+fn print_readings(book: &[u8], start: usize, words: u16)
+    requires { ⌜ (start ≤ length (now book)) × (length (now book) ≤ longestBook) × (words ≤ mostWords) ⌝ }
+{
+    let mut table = [0u16; TABLE_NUMBERS];
+    match build(&book[..start], &mut table) {
+        BuildAnswer::Refused { number, place } => {
+            print_refusal(number, place);
+        }
+        BuildAnswer::Built {
+            words: _,
+            states: _,
+            longest: _,
+        } => {
+            print_blocks(book, start, words, &table);
+        }
+    }
+}
+
+pub fn print_book(book: &[u8]) {
+    let map = identity();
+    match book_words(&map, book) {
+        Dictionary::Refused { number, place } => {
+            print_refusal(number, place);
+        }
+        Dictionary::Words {
+            words,
+            letters: _,
+            end,
+        } => {
+            print_readings(book, end as usize, words);
+        }
+    }
+}

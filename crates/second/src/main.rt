@@ -1,0 +1,117 @@
+// A second computation of the library's answers for a fixed family of small cases, by plain search
+// and with none of the library's code: every suffix is tried against every word or state. It prints
+// a running checksum, to be compared with that of `many`, which goes through the library.
+//
+// Random numbers: a state x, at first 20260114. `rnd(n)`, for n of 1 or more, makes x
+// (x * 1103515245 + 12345) % 2147483648, and gives (x / 65536) % n.
+//
+// Cases are numbered 0 to 2,999, and x goes on from case to case. For each, in this order:
+// 1. letters = 2 + rnd(2).
+// 2. words = rnd(7). For each word: length = 1 + rnd(4), then length times a letter
+//    97 + rnd(letters). Its record is 87, 68, length, the letters. The dictionary is the records one
+//    after the other, at most 42 bytes.
+// 3. damage = rnd(8). If it is 0 and the dictionary is not empty: p = rnd(its length),
+//    v = rnd(256), and byte p becomes v. If it is 1 and the dictionary is not empty: it is cut to
+//    its first rnd(its length) bytes.
+// 4. kind = rnd(4). If it is 0 or words is 0: the text has rnd(13) letters, each 97 + rnd(letters).
+//    Otherwise the text is made of words as they were before damage. It is empty at first; then,
+//    1 + rnd(5) times, w = rnd(words), and word w is appended if the text then has at most 16
+//    letters, and is else left out.
+//
+// The checksum h is 0 at first, and mixing v in makes it (h * 1000003 + v + 1) % 4294967291. Of each
+// case are mixed in, in this order:
+// - dictionary refused: 1, the refusal's number, its place, and nothing more;
+// - not refused: 0; the numbers of words and states, and r; the table's numbers, seven for each
+//   state, row by row, 65,535 for none; the state column, positions 0 to the text's length; the
+//   count column likewise; the verdict (1 accepted, 0 not), farthest, the count at the end, probes;
+//   for each reading, in the order of listing and 40 at most, the number of its words and its word
+//   numbers left to right; at last the number of readings so listed.
+//
+// After each case c with c % 100 = 99 a line is printed: `cases`, c + 1, h, with one space between
+// fields. So there are 30 lines.
+mod automaton;
+mod family;
+mod scan;
+mod strings;
+mod sum;
+
+use automaton::greatest_chain;
+use automaton::mixed_table;
+use automaton::parse;
+use automaton::states_of;
+use family::damaged;
+use family::random_records;
+use family::random_text;
+use family::rnd;
+use scan::Listing;
+use scan::counts_of;
+use scan::list_readings;
+use scan::mixed_counts;
+use scan::mixed_scan;
+use scan::mixed_states;
+use strings::Parts;
+use strings::no_bytes;
+use sum::mixed;
+
+// The sum with what the text's scan and listing give.
+fn mixed_text(h: u64, letters: &[u8; 64], words: Parts, text: &[u8; 64], len: usize) -> u64 {
+    let counts = counts_of(letters, words, text, len);
+    let sum = mixed_scan(
+        mixed_counts(h, counts, len),
+        letters,
+        words,
+        text,
+        len,
+        counts,
+    );
+    let none = Listing { sum, listed: 0 };
+    let all = list_readings(letters, words, text, len, no_bytes(), none);
+    mixed(all.sum, all.listed)
+}
+
+// The sum with what one case gives.
+fn mixed_case(h: u64, d: &[u8; 64], d_len: usize, text: &[u8; 64], len: usize) -> u64 {
+    let got = parse(d, d_len);
+    if got.refusal != 0 {
+        return mixed(mixed(mixed(h, 1), got.refusal as u64), got.place as u64);
+    }
+    let words = got.words;
+    let states = states_of(d, words);
+    let h1 = mixed(mixed(h, 0), words.count as u64);
+    let h2 = mixed(h1, states.count as u64);
+    let h3 = mixed(h2, greatest_chain(d, words, states));
+    let h4 = mixed_table(h3, d, words, states);
+    let h5 = mixed_states(h4, d, states, text, len);
+    mixed_text(h5, d, words, text, len)
+}
+
+fn next_case(x: &mut usize, h: u64) -> u64 {
+    let letters = 2 + rnd(x, 2);
+    let words = rnd(x, 7);
+    let made = random_records(x, words, letters);
+    let dictionary = damaged(x, made.records);
+    let records = made.records.at;
+    let text = random_text(x, &records, made.words, letters);
+    let d = dictionary.at;
+    let t = text.at;
+    mixed_case(h, &d, dictionary.len, &t, text.len)
+}
+
+fn print_line(cases: u64, h: u64) {
+    io::write_all(1, b"cases ");
+    io::print_decimal(1, cases);
+    io::write_all(1, b" ");
+    io::print_decimal(1, h);
+    io::write_all(1, b"\n");
+}
+
+fn main() {
+    let mut x = 20260114;
+    let mut h = 0;
+    for c in 0..3000 {
+        h = next_case(&mut x, h);
+        if c % 100 == 99 {
+            print_line(c + 1, h);
+        }
+    }
+}

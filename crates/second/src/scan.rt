@@ -1,0 +1,202 @@
+// The columns of a text, its counts and probes, and its readings.
+use super::strings::Bytes;
+use super::strings::Part;
+use super::strings::Parts;
+use super::strings::ends;
+use super::strings::find;
+use super::strings::how_many_end;
+use super::strings::longest_before;
+use super::strings::part_at;
+use super::strings::with_byte;
+use super::sum::mixed;
+use super::sum::plus;
+
+// The checksum, and how many readings went into it.
+pub struct Listing {
+    pub sum: u64,
+    pub listed: u64,
+}
+
+// The count at each position.
+pub struct Counts {
+    pub at: [u64; 64],
+}
+
+fn count_at(counts: Counts, i: usize) -> u64 {
+    if i < 64 { counts.at[i] } else { 0 }
+}
+
+fn with_count(counts: Counts, i: usize, count: u64) -> Counts {
+    let mut after = counts;
+    if i < 64 {
+        after.at[i] = count;
+    }
+    after
+}
+
+// The positions of a text are 0 to its length.
+fn positions(len: usize) -> usize {
+    if len < 64 { len + 1 } else { 64 }
+}
+
+// The count before `word`, if it ends at `end`, else 0.
+fn count_before(
+    letters: &[u8; 64],
+    word: Part,
+    text: &[u8; 64],
+    end: usize,
+    counts: Counts,
+) -> u64 {
+    let len = word.len;
+    if ends(letters, word, text, end, end) {
+        if len <= end {
+            return count_at(counts, end - len);
+        }
+    }
+    0
+}
+
+// The count at `end`, from the counts before it.
+fn next_count(
+    letters: &[u8; 64],
+    words: Parts,
+    text: &[u8; 64],
+    end: usize,
+    counts: Counts,
+) -> u64 {
+    let count = words.count;
+    let mut total = 0;
+    for k in 0..count {
+        total = plus(
+            total,
+            count_before(letters, part_at(words, k), text, end, counts),
+        );
+    }
+    total
+}
+
+pub fn counts_of(letters: &[u8; 64], words: Parts, text: &[u8; 64], len: usize) -> Counts {
+    let mut counts = with_count(Counts { at: [0u64; 64] }, 0, 1);
+    for i in 0..len {
+        let count = next_count(letters, words, text, i + 1, counts);
+        counts = with_count(counts, i + 1, count);
+    }
+    counts
+}
+
+// The sum with the state column: at each position the longest suffix that is a state. The empty
+// state is always one.
+pub fn mixed_states(h: u64, letters: &[u8; 64], states: Parts, text: &[u8; 64], len: usize) -> u64 {
+    let end = positions(len);
+    let mut sum = h;
+    for i in 0..end {
+        sum = mixed(sum, longest_before(letters, states, text, i, i) as u64);
+    }
+    sum
+}
+
+pub fn mixed_counts(h: u64, counts: Counts, len: usize) -> u64 {
+    let end = positions(len);
+    let mut sum = h;
+    for i in 0..end {
+        sum = mixed(sum, count_at(counts, i));
+    }
+    sum
+}
+
+// The greatest position whose count isn't 0.
+fn farthest(counts: Counts, len: usize) -> usize {
+    let end = positions(len);
+    let mut far = 0;
+    for i in 0..end {
+        if count_at(counts, i) != 0 {
+            far = i;
+        }
+    }
+    far
+}
+
+// How many pairs of a position and a word there are with the word ending at the position.
+fn probes(letters: &[u8; 64], words: Parts, text: &[u8; 64], len: usize) -> u64 {
+    let end = positions(len);
+    let mut total = 0;
+    for i in 0..end {
+        total = plus(total, how_many_end(letters, words, text, i, i));
+    }
+    total
+}
+
+// The sum with verdict, farthest, count at the end and probes.
+pub fn mixed_scan(
+    h: u64,
+    letters: &[u8; 64],
+    words: Parts,
+    text: &[u8; 64],
+    len: usize,
+    counts: Counts,
+) -> u64 {
+    let count = count_at(counts, len);
+    let accepted = if count == 0 { 0 } else { 1 };
+    let h1 = mixed(h, accepted);
+    let h2 = mixed(h1, farthest(counts, len) as u64);
+    let h3 = mixed(h2, count);
+    mixed(h3, probes(letters, words, text, len))
+}
+
+fn as_number(b: u8) -> u64 {
+    b as u64
+}
+
+fn number_at(numbers: Bytes, k: usize) -> u64 {
+    if k < 64 { as_number(numbers.at[k]) } else { 0 }
+}
+
+// The sum with the number of words of a reading and its word numbers, which `last_first` has from
+// the last to the first.
+fn mixed_reading(h: u64, last_first: Bytes) -> u64 {
+    let len = last_first.len;
+    let mut sum = mixed(h, len as u64);
+    let mut k = len;
+    while 0 < k {
+        k -= 1;
+        sum = mixed(sum, number_at(last_first, k));
+    }
+    sum
+}
+
+// The listing with one reading more, up to the 40th.
+fn with_reading(listing: Listing, last_first: Bytes) -> Listing {
+    let listed = listing.listed;
+    if 40 <= listed {
+        return listing;
+    }
+    Listing {
+        sum: mixed_reading(listing.sum, last_first),
+        listed: listed + 1,
+    }
+}
+
+// Lists the readings of the text's first `end` letters, each with the words `after` it, which are
+// kept from the last to the first. The last word begins at `start`, so the longest comes first.
+// Numbers of words are below 64, and 65,535 is none.
+pub fn list_readings(
+    letters: &[u8; 64],
+    words: Parts,
+    text: &[u8; 64],
+    end: usize,
+    after: Bytes,
+    listing: Listing,
+) -> Listing {
+    if end == 0 {
+        return with_reading(listing, after);
+    }
+    let mut longer = listing;
+    for start in 0..end {
+        let w = find(letters, words, text, start, end - start);
+        if w < 256 {
+            let with_last = with_byte(after, w as u8);
+            longer = list_readings(letters, words, text, start, with_last, longer);
+        }
+    }
+    longer
+}
