@@ -5,19 +5,20 @@ use mathlib.Core.Option.{Option, none, some}
 use mathlib.Core.List.{List, [], _∷_, head?, List·Memᴰ, List·Memᴰ·head, List·Memᴰ·tail}
 use Prim.Native.Nat.{ℕ, zero, suc, _≤_, _<_}
 use native.Mathlib.Omega.{arith}
-use lib.Dec.{leb}
-use lib.ListN.{length, getElem?, length-append}
+use borrow.Author.Tests.{ltb-false}
+use lib.Dec.{leb, ltb}
+use lib.ListN.{length, getElem?, take, length-append}
 use Rattle.meaning.specs.Words.{if_then_else_, Word, Words, Reading, word, joined}
 use Rattle.meaning.specs.Table.{over}
 use Rattle.meaning.specs.Readings.{readings}
-use Rattle.meaning.specs.Listing.{nextReading}
+use Rattle.meaning.specs.Listing.{isReading, nextReading}
 use Rattle.meaning.specs.Plain.{Dictionary, IsReading}
 use Rattle.meaning.proofs.Readings.{readings-are}
 use Rattle.meaning.proofs.Next.{next-of-reading}
 use Rattle.listing.specs.Answers.{answer, left}
 use Rattle.listing.specs.declared.listed.Listed.{Listed}
 use Rattle.listing.specs.declared.listed.Listed.the-variants as list
-use Rattle.orgamish.specs.Order.{_andThen_, unreadRefusal, fitRefusal}
+use Rattle.orgamish.specs.Order.{_andThen_, unreadRefusal, isGiven, fitRefusal}
 use Rattle.orgamish.specs.Calls.{toldBy, leftBy, lengthOf, listed}
 
 -- the refusal's number, where having no reading is refused as k
@@ -108,3 +109,12 @@ pub next-fits : (X : Words) → Dictionary X → (t : Word) (ns ws : Reading) �
 next-fits X D t ns ws r e =
     let (k, h, at, next) = next-of-reading X D t ns r in
     reading-short X D t ws (readings-are X D t ws .0 (elem-mem (readings X t) (suc k) ws (sym next ∙ e)))
+
+-- the given words, where they pass
+pub given-reads : (X : Words) (t : Word) (b : List ℕ) (k : ℕ) → isGiven X t b k ≡ true → (k ≤ length b) × (isReading X t (take k b) ≡ true)
+given-reads X t b k e = go (ltb (length b) k) refl e
+  where
+    go : (q : Bool) → ltb (length b) k ≡ q → (if q then false else isReading X t (take k b)) ≡ true
+        → (k ≤ length b) × (isReading X t (take k b) ≡ true)
+    go true p f = let z : _≡_ {A = ℕ} 0 1 = cc in absurd (omega arith)
+    go false p f = (ltb-false (length b) k p, f)

@@ -1,4 +1,5 @@
 -- The order of refusals: a chain of tests, of which the first that fails decides. 0 is no refusal.
+use mathlib.Core.Bool.{Bool, false}
 use mathlib.Core.Option.{Option, none, some}
 use mathlib.Core.List.{List, head?}
 use Prim.Native.Nat.{ℕ, zero, suc}
@@ -48,11 +49,11 @@ unreadRefusal none = 12
 unreadRefusal (some ws) = 0
 
 -- 13: k entries of the buffer are given
+abbrev pub isGiven : Words → Word → List ℕ → ℕ → Bool
+isGiven X t buffer k = if ltb (length buffer) k then false else isReading X t (take k buffer)
+
 abbrev pub givenRefusal : Words → Word → List ℕ → ℕ → ℕ
-givenRefusal X t buffer k =
-    if ltb (length buffer) k then 13
-    else if isReading X t (take k buffer) then 0
-    else 13
+givenRefusal X t buffer k = if isGiven X t buffer k then 0 else 13
 
 -- 14, where there is a reading to be written
 abbrev pub fitRefusal : Option Reading → List ℕ → ℕ

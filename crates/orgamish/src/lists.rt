@@ -1,6 +1,10 @@
 // First and next: the readings of a scanned text, one after the other.
 ghost use mathlib.Core.Path.{_≡_};
+ghost use lib.ListN.{length};
+ghost use Rattle.meaning.specs.Words.{Word, Words};
 ghost use Rattle.records.specs.Letters.{identity as identityOf};
+ghost use Rattle.listing.specs.Positions.{Stated};
+ghost use Rattle.orgamish.specs.Order.{isGiven};
 ghost use Rattle.orgamish.specs.Calls.{firstTells, firstLeaves, nextTells, nextLeaves};
 ghost use Rattle.orgamish.specs.Answers.{firstTold, nextTold};
 use crate::answers::FirstAnswer;
@@ -45,6 +49,17 @@ pub fn first_by(
     }
 }
 
+// Whether so many entries are given, and are a reading of the text of m letters.
+fn is_given(table: &[u16], states: &[u16], m: usize, reading: &[u16], given: usize) -> bool
+    requires { ⌜ ((X : Words) × (t : Word) × Stated X t (now table) (now states) × (m ≡ length t)) ⌝ }
+    ensures { λ r. ⌜ ((X : Words) (t : Word) → Stated X t (now (table .entry)) (now (states .entry)) → m ≡ length t → r ≡ isGiven X t (now (reading .entry)) given) ⌝ }
+{
+    if reading.len() < given {
+        return false;
+    }
+    is_reading(table, states, m, reading, given)
+}
+
 // Under a letter map.
 pub fn next_by(
     map: &[u8],
@@ -63,13 +78,7 @@ pub fn next_by(
     match judge_list(map, dict, table, text, states, counts) {
         Verdict::Refused { number, place } => NextAnswer::Refused { number, place },
         Verdict::Passed => {
-            if reading.len() < given {
-                return NextAnswer::Refused {
-                    number: 13,
-                    place: 0,
-                };
-            }
-            if !is_reading(table, states, text.len(), reading, given) {
+            if !is_given(table, states, text.len(), reading, given) {
                 return NextAnswer::Refused {
                     number: 13,
                     place: 0,

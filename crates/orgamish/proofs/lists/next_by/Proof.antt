@@ -1,31 +1,30 @@
 -- `orgamish::lists::next_by`: the tests, then the next reading.
-use mathlib.Core.Path.{_≡_, refl, sym, ap, _∙_}
-use mathlib.Core.Bool.{Bool, true, false}
+use mathlib.Core.Path.{_≡_, sym, ap, _∙_}
+use mathlib.Core.Bool.{Bool, true}
 use mathlib.Core.Option.{Option}
 use mathlib.Core.List.{List}
-use Prim.Native.Nat.{ℕ, _≤_}
+use Prim.Native.Nat.{ℕ}
 use native.Mathlib.Omega.{arith}
 use borrow.Author.Needs.{needs}
-use borrow.Author.Tests.{lt-ltb, le-ltb, not-true, not-false}
+use borrow.Author.Tests.{not-true, not-false}
 use denote.Ref.{now}
-use lib.Dec.{ltb}
 use lib.ListN.{length, take}
 use Rattle.meaning.specs.Words.{if_then_else_, Word, Words, Reading}
-use Rattle.meaning.specs.Listing.{isReading, nextReading}
+use Rattle.meaning.specs.Listing.{nextReading}
 use Rattle.meaning.specs.Plain.{Allowed}
 use Rattle.meaning.proofs.Readings.{isReading-is}
 use Rattle.records.specs.Letters.{mapped}
 use Rattle.records.specs.Run.{Run, dictionary}
 use Rattle.columns.proofs.Entry.{mapped-size}
-use Rattle.listing.specs.Positions.{Whole, Given, Giving}
+use Rattle.listing.specs.Positions.{Stated, Whole, Giving}
 use Rattle.listing.specs.Answers.{Answers, answer}
 use Rattle.listing.specs.declared.listed.Listed.{Listed}
-use Rattle.orgamish.specs.Order.{_andThen_, listRefusal, givenRefusal, fitRefusal}
+use Rattle.orgamish.specs.Order.{_andThen_, listRefusal, isGiven, givenRefusal, fitRefusal}
 use Rattle.orgamish.specs.Calls.{toldBy, lengthOf, listed, tells, leaves}
 use Rattle.orgamish.proofs.Verdicts.{Passes, passes, passed-allowed, refused-before}
 use Rattle.orgamish.proofs.Cleared.{scanned, short-text}
 use Rattle.orgamish.proofs.Called.{Came, came-tells, came-leaves, tells-refused, leaves-refused, then-comes}
-use Rattle.orgamish.proofs.Listings.{numberBy, valuesBy, next-number, listing-told, listing-left, answer-words, next-fits}
+use Rattle.orgamish.proofs.Listings.{numberBy, valuesBy, next-number, listing-told, listing-left, answer-words, next-fits, given-reads}
 use Rattle.orgamish.proofs.lists.next_by.Statement.{statement}
 use Rattle.orgamish.proofs.lists.next_by.Tie as tie
 
@@ -92,60 +91,47 @@ came c e =
     record { end = found c .end; is = found c .is; comes = then-comes (columns s X) (rest s X) (found c .clear) e }
 
 -- what the test of the given words comes to
-abbrev restBy : tie.Start → Words → Bool → Bool → ℕ
-restBy s X long reads = (if long then 13 else if reads then 0 else 13) andThen fitRefusal (chosen s X) (buffer s)
+by-given : (s : tie.Start) (X : Words) {b : Bool} → isGiven X (text s) (buffer s) (s .args .given) ≡ b
+    → rest s X ≡ (if b then 0 else 13) andThen fitRefusal (chosen s X) (buffer s)
+by-given s X e = ap (λ (q : Bool). (if q then 0 else 13) andThen fitRefusal (chosen s X) (buffer s)) e
 
-by-tests : (s : tie.Start) (X : Words) {long reads : Bool} → ltb (length (buffer s)) (s .args .given) ≡ long → isReading X (text s) (given s) ≡ reads
-    → rest s X ≡ restBy s X long reads
-by-tests s X {long} e f =
-    ap (λ (q : Bool). restBy s X q (isReading X (text s) (given s))) e ∙ ap (restBy s X long) f
+offered : (c : tie.After-enum-told) → let s = begun (judged c) in
+    Stated (found c .X) (text s) (now (s .args .table)) (now (s .args .states))
+offered c = let w = whole c in record { table = w .scanned .table; states = w .scanned .columns .states }
 
-room : (c : tie.Else1) → let s = begun (judged (c .before)) in s .args .given ≤ length (buffer s)
-room c = omega (arith, c .if1 .left)
-
-offered : (c : tie.Else1) → let s = begun (judged (c .before)) in
-    Given (found (c .before) .X) (text s) (now (s .args .table)) (now (s .args .states)) (length (now (s .args .text))) (buffer s) (s .args .given)
-offered c =
-    let w = whole (c .before) in
-    record {
-      stated = record { table = w .scanned .table; states = w .scanned .columns .states };
-      long = w .long;
-      room = room c;
-    }
-
-abbrev looked : tie.After-is-reading → tie.Else1
+abbrev looked : tie.After-is-given → tie.After-enum-told
 looked c = c .before .before
 
-reads : (c : tie.Else2) → let k = looked (c .before) .before in
-    let s = begun (judged k) in isReading (found k .X) (text s) (given s) ≡ true
-reads c =
+is : (c : tie.Else1) → let k = looked (c .before) in
+    let s = begun (judged k) in isGiven (found k .X) (text s) (buffer s) (s .args .given) ≡ true
+is c =
     let d = c .before in
-    sym (d .is-reading .ensures _ _ (offered (looked d))) ∙ not-false _ (c .if2 .left)
+    let k = looked d in
+    sym (d .is-given .ensures _ _ (offered k) (whole k .long)) ∙ not-false _ (c .if1 .left)
 
-giving : (c : tie.Else2) → let k = looked (c .before) .before in
+giving : (c : tie.Else1) → let k = looked (c .before) in
     let s = begun (judged k) in
     Giving (found k .X) (text s) (now (s .args .table)) (now (s .args .states)) (now (s .args .counts)) (length (now (s .args .text)))
     (buffer s) (s .args .given)
 giving c =
-    let l = looked (c .before) in
-    let k = l .before in
+    let k = looked (c .before) in
     let s = begun (judged k) in
-    record { whole = whole k; room = room l; reads = isReading-is (found k .X) (text s) (given s) .0 (reads c) }
+    let (room, reads) = given-reads (found k .X) (text s) (buffer s) (s .args .given) (is c) in
+    record { whole = whole k; room = room; reads = isReading-is (found k .X) (text s) (given s) .0 reads }
 
-abbrev passedBy : tie.After-next → tie.Else2
+abbrev passedBy : tie.After-next → tie.Else1
 passedBy c = c .before .before
 
 abbrev asked : tie.After-next → tie.After-enum-told
-asked c = looked (passedBy c .before) .before
+asked c = looked (passedBy c .before)
 
 comes : (c : tie.After-next) → let s = begun (judged (asked c)) in
     Came (test s) (run s) (found (asked c) .X) (numberBy 0 (answer (chosen s (found (asked c) .X)) (buffer s)))
 comes c =
-    let l = looked (passedBy c .before) in
-    let s = begun (judged (l .before)) in
-    let X = found (l .before) .X in
-    came (l .before)
-    (by-tests s X (le-ltb (length (buffer s)) (s .args .given) (room l)) (reads (passedBy c)) ∙ next-number (chosen s X) (buffer s))
+    let k = asked c in
+    let s = begun (judged k) in
+    let X = found k .X in
+    came k (by-given s X (is (passedBy c)) ∙ next-number (chosen s X) (buffer s))
 
 -- by what the listing told
 told : (c : tie.After-next) (r : Listed) → let s = begun (judged (asked c)) in
@@ -177,36 +163,27 @@ enum-known-number c = search needs
 enum-told : tie.Need-enum-told
 enum-told c = search needs
 
-returns : tie.Need-returns
-returns c =
-    let k = c .before in
-    let s = begun (judged k) in
-    let X = found k .X in
-    let w = came k (by-tests s X (lt-ltb (length (buffer s)) (s .args .given) (omega (arith, c .if1 .taken))) refl) in
-    (came-tells w (values s), came-leaves w (after s) (buffer s))
-
-is-reading-requires : tie.Need-is-reading-requires
-is-reading-requires c κs =
-    let l = c .before in (found (l .before) .X, text (begun (judged (l .before))), offered l)
+is-given-requires : tie.Need-is-given-requires
+is-given-requires c κs =
+    let k = c .before in (found k .X, text (begun (judged k)), offered k, whole k .long)
 
 same-length : tie.Need-same-length
 same-length c = search needs
 
-returns-2 : tie.Need-returns-2
-returns-2 c =
+returns : tie.Need-returns
+returns c =
     let d = c .before in
-    let l = looked d in
-    let k = l .before in
+    let k = looked d in
     let s = begun (judged k) in
     let X = found k .X in
-    let no : isReading X (text s) (given s) ≡ false = sym (d .is-reading .ensures _ _ (offered l)) ∙ not-true _ (c .if2 .taken) in
-    let w = came k (by-tests s X (le-ltb (length (buffer s)) (s .args .given) (room l)) no) in
+    let no = sym (d .is-given .ensures X (text s) (offered k) (whole k .long)) ∙ not-true _ (c .if1 .taken) in
+    let w = came k (by-given s X no) in
     (came-tells w (values s), came-leaves w (after s) (buffer s))
 
 next-requires : tie.Need-next-requires
 next-requires c κs =
     let e = c .before in
-    let k = looked (e .before) .before in
+    let k = looked (e .before) in
     (found k .X, text (begun (judged k)), giving e)
 
 enum-told-2 : tie.Need-enum-told-2
@@ -233,8 +210,8 @@ cast-t23 c =
       short-text X (now (a .table)) (text s) (now (a .states)) (now (a .counts)) (found k .clear),
     )
 
-returns-3 : tie.Need-returns-3
-returns-3 c =
+returns-2 : tie.Need-returns-2
+returns-2 c =
     let d = c .before .before .before in
     let s = begun d in
     let e = refused-before (columns s) (rest s) (run s) (sym (c .before .number .given .1) ∙ d .judge-list .ensures) in
@@ -243,24 +220,24 @@ returns-3 c =
 same-length-2 : tie.Need-same-length-2
 same-length-2 c = search needs
 
-returns-4 : tie.Need-returns-4
-returns-4 c =
+returns-3 : tie.Need-returns-3
+returns-3 c =
     let d = c .before .before .before .before in
     (told d _ (sym (c .enum-told2 .given .1) ∙ answers d .answers), kept d)
 
 same-length-3 : tie.Need-same-length-3
 same-length-3 c = search needs
 
-returns-5 : tie.Need-returns-5
-returns-5 c =
+returns-4 : tie.Need-returns-4
+returns-4 c =
     let d = c .before .before .before .before in
     (told d _ (sym (c .enum-told3 .given .1) ∙ answers d .answers), kept d)
 
 same-length-4 : tie.Need-same-length-4
 same-length-4 c = search needs
 
-returns-6 : tie.Need-returns-6
-returns-6 c =
+returns-5 : tie.Need-returns-5
+returns-5 c =
     let d = c .before .before .before .before .before in
     (told d _ (sym (c .before .words .given .1) ∙ answers d .answers), kept d)
 
@@ -271,19 +248,18 @@ next-by-spec =
     judge-list-requires
     enum-known-number
     enum-told
-    returns
-    is-reading-requires
+    is-given-requires
     same-length
-    returns-2
+    returns
     next-requires
     enum-told-2
     enum-told-3
     enum-known-words
     cast-t23
-    returns-3
+    returns-2
     same-length-2
-    returns-4
+    returns-3
     same-length-3
-    returns-5
+    returns-4
     same-length-4
-    returns-6)
+    returns-5)

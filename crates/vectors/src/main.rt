@@ -1,0 +1,58 @@
+// Runs the examples, the limits from both sides and every refusal of document 01 through the
+// library's public calls. A line is a vector's name and what the call told: numbers, `end`, or
+// `refused` with number and place. After a refusal stands whether all lent memory was kept.
+mod books;
+mod builds;
+mod lines;
+mod lists;
+mod making;
+mod scans;
+
+use books::print_bad_books;
+use books::print_block_lengths;
+use books::print_book_lengths;
+use books::print_example;
+use builds::print_bad_records;
+use builds::print_letters_in_all;
+use builds::print_number_of_words;
+use builds::print_table_room;
+use builds::print_word_lengths;
+use lists::print_list;
+use lists::print_list_end;
+use lists::print_no_reading;
+use lists::print_reading_room;
+use lists::print_unscanned;
+use scans::print_column_room;
+use scans::print_counts_at_cap;
+use scans::print_table_refusals;
+use scans::print_text_lengths;
+
+// The words aa, aaaab, aaaba, aab and ab; those and four blocks; the words a and aa.
+fn print_vectors(set_e: &[u8], book: &[u8], runs: &[u8]) {
+    print_table_room(set_e);
+    print_word_lengths();
+    print_letters_in_all();
+    print_number_of_words();
+    print_bad_records();
+    print_counts_at_cap(runs);
+    print_text_lengths(set_e);
+    print_table_refusals(set_e);
+    print_column_room(set_e);
+    print_reading_room(set_e);
+    print_list(runs);
+    print_list_end(runs);
+    print_unscanned(runs);
+    print_no_reading(runs);
+    print_example(set_e, book);
+    print_book_lengths();
+    print_block_lengths();
+    print_bad_books();
+}
+
+fn main() {
+    print_vectors(
+        b"WD\x02aaWD\x05aaaabWD\x05aaabaWD\x03aabWD\x02ab",
+        b"WD\x02aaWD\x05aaaabWD\x05aaabaWD\x03aabWD\x02abTB\x06\x00aaaaabTB\x00\x00TB\x03\x00aaaTB\x02\x00ba",
+        b"WD\x01aWD\x02aa",
+    );
+}
