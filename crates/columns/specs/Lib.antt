@@ -1,3 +1,4 @@
 pub mod Columns
 pub mod Entries
 pub mod Scans
+pub mod Reaching

@@ -19,10 +19,6 @@ pub record Room (X : Words) (t : Word) (tb ss cs : List ℕ) : Type 0 where
   pub states : length t < length ss
   pub counts : length t < length cs
 
--- the farthest position up to i, which has the count c, where f is the farthest before i
-abbrev pub fartherOf : ℕ → ℕ → ℕ → ℕ
-fartherOf c i f = if eqb c 0 then f else i
-
 -- the columns are written, and what is told is right
 pub record Scans (X : Words) (t : Word) (ss ss′ cs cs′ : List ℕ) (f c p : ℕ) : Type 0 where
   pub states : ss′ ≡ over (stateColumn X t) ss

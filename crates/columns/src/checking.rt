@@ -7,12 +7,7 @@ ghost use Rattle.records.specs.Letters.{mapped};
 ghost use Rattle.columns.specs.Scans.{Room, holdsAt, areColumns};
 use crate::entries::entry_after;
 use automaton::root_index;
-
-fn wide(x: u16) -> usize
-    ensures { λ r. ⌜ r ≡ x ⌝ }
-{
-    x as usize
-}
+use automaton::wide;
 
 fn holds_at(states: &[u16], counts: &[u64], i: usize, s: usize, c: u64) -> bool
     requires { ⌜ (i < length (now states)) × (i < length (now counts)) ⌝ }

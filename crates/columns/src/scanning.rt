@@ -2,27 +2,21 @@
 ghost use mathlib.Core.Path.{_≡_};
 ghost use Rattle.meaning.specs.Words.{Words};
 ghost use Rattle.records.specs.Letters.{mapped};
-ghost use Rattle.columns.specs.Scans.{Room, fartherOf, Scans};
+ghost use Rattle.columns.specs.Scans.{Room, Scans};
 use crate::entries::entry_after;
+use crate::reaching::farthest;
 use automaton::root_index;
 
-// What a scan tells: the farthest position whose count isn't 0, the count at the text's end, and the probes.
+// What a scan tells: how far the text can be read, the count at its end, and the probes.
 pub struct Findings {
     pub farthest: usize,
     pub count: u64,
     pub probes: u32,
 }
 
-// The farthest position up to i, which has the count, where `farthest` is that before i.
-fn farther(count: u64, i: usize, farthest: usize) -> usize
-    ensures { λ r. ⌜ r ≡ fartherOf count i farthest ⌝ }
-{
-    if count == 0 { farthest } else { i }
-}
-
 // A text is read alone: it begins in state 0 with the count 1. The index takes at most 256 turns. Then one turn a letter, at most
 // 4,096; each goes along at most r words of a chain and, at each state of the step's climb, along the siblings below the letter. All
-// turns together climb at most as many borders as the text has letters.
+// turns together climb at most as many borders as the text has letters. At last `farthest` goes back to the last reading.
 pub fn scan(
     map: &[u8],
     table: &[u16],
@@ -40,7 +34,6 @@ pub fn scan(
     let index = root_index(table);
     states[0] = 0;
     counts[0] = 1;
-    let mut farthest = 0;
     let mut count: u64 = 1;
     let mut probes: u32 = 0;
     let mut s = 0;
@@ -52,11 +45,10 @@ pub fn scan(
         count = entry.count;
         states[i] = s as u16;
         counts[i] = count;
-        farthest = farther(count, i, farthest);
         probes += entry.probes;
     }
     Findings {
-        farthest,
+        farthest: farthest(table, states, counts, text.len()),
         count,
         probes,
     }

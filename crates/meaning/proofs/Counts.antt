@@ -1,21 +1,16 @@
--- Counts: the column's recurrence, as a loop computes it, and what the greatest count says; farthest.
+-- Counts: the column's recurrence, as a loop computes it, and what the greatest count says.
 use mathlib.Core.Path.{_≡_, refl, sym, ap, ap₂, _∙_}
 use mathlib.Core.Bool.{true, false, true≢false}
 use mathlib.Core.List.{List, [], _∷_, map}
-use mathlib.Core.Logic.{_↔_, _≢_, ⊎-elim}
+use mathlib.Core.Logic.{_↔_, _≢_}
 use Prim.Native.Nat.{ℕ, zero, suc, _+_, _-_, _≤_, _<_}
-use native.Mathlib.Nat.{le-suc-iff}
 use native.Mathlib.Omega.{arith}
-use lib.Dec.{eqb}
-use borrow.Author.Tests.{eqb-true, eqb-false, ne-eqb}
 use lib.ListN.{length, take, length-append, length-map}
 use lib.Seq.{length-take-le, take-take}
 use Rattle.meaning.specs.Numbers.{mostCounted}
-use Rattle.meaning.specs.Words.{if_then_else_, Word, Words, Reading, snoc, size}
+use Rattle.meaning.specs.Words.{Word, Words, Reading, snoc, size}
 use Rattle.meaning.specs.Automaton.{chain}
-use Rattle.meaning.specs.Readings.{endingWith, readingsIn, readingsTo, readings, isNonempty, readable, capped, countAt, farthestTo, farthest}
-use Rattle.meaning.specs.Plain.{Farthest}
-use Rattle.meaning.proofs.Find.{Tested, pass, fail, test}
+use Rattle.meaning.specs.Readings.{endingWith, readingsIn, readingsTo, readings, isNonempty, readable, capped, countAt}
 use Rattle.meaning.proofs.Readings.{endingWith-cong, readingsTo-suc}
 
 -- the readings at a position are those of the letters before it, whatever comes after
@@ -96,26 +91,3 @@ count-unreadable X t i = go (readingsTo X t i)
     go : (l : List Reading) → (isNonempty l ≡ false) ↔ (capped (length l) ≡ 0)
     go [] = (λ e. refl, λ h. refl)
     go (x ∷ l) = (λ e. absurd (true≢false e), λ h. absurd (omega arith))
-
--- farthest is the greatest position whose count isn't 0
-farthestTo-here : (X : Words) (t : Word) (i : ℕ) → countAt X t (suc i) ≢ 0 → farthestTo X t (suc i) ≡ suc i
-farthestTo-here X t i d = ap (λ b. if b then farthestTo X t i else suc i) (ne-eqb (countAt X t (suc i)) 0 d)
-
-farthestTo-past : (X : Words) (t : Word) (i : ℕ) → eqb (countAt X t (suc i)) 0 ≡ true → farthestTo X t (suc i) ≡ farthestTo X t i
-farthestTo-past X t i e = ap (λ b. if b then farthestTo X t i else suc i) e
-
-pub farthestTo-is : (X : Words) (t : Word) (i : ℕ) → Farthest X t i (farthestTo X t i)
-farthestTo-is X t zero = record { within = omega arith; reached = λ e. omega (arith, e); past = λ j h k. absurd (omega arith) }
-farthestTo-is X t (suc i) = go (test (eqb (countAt X t (suc i)) 0)) (farthestTo-is X t i)
-  where
-    go : Tested (eqb (countAt X t (suc i)) 0) → Farthest X t i (farthestTo X t i) → Farthest X t (suc i) (farthestTo X t (suc i))
-    go (pass e) r = rw (farthestTo-past X t i e) (record { within = omega (arith, r .within); reached = r .reached; past = upTo })
-      where
-        upTo : (j : ℕ) → farthestTo X t i < j → j ≤ suc i → countAt X t j ≡ 0
-        upTo j h k = ⊎-elim (r .past j h) (λ q. ap (countAt X t) q ∙ eqb-true (countAt X t (suc i)) 0 e) (le-suc-iff .0 k)
-    go (fail e) r =
-        let d : countAt X t (suc i) ≢ 0 = eqb-false (countAt X t (suc i)) 0 e in
-        rw (farthestTo-here X t i d) (record { within = omega arith; reached = d; past = λ j h k. absurd (omega arith) })
-
-pub farthest-is : (X : Words) (t : Word) → Farthest X t (length t) (farthest X t)
-farthest-is X t = farthestTo-is X t (length t)

@@ -10,5 +10,6 @@ pub mod Readings
 pub mod Order
 pub mod Counts
 pub mod Columns
+pub mod Farthest
 pub mod First
 pub mod Next

@@ -2,7 +2,7 @@
 use mathlib.Core.Path.{_≡_, refl, sym, _∙_, ap, subst}
 use mathlib.Core.Logic.{_⊎_, inl, inr}
 use mathlib.Core.Option.{none, some}
-use mathlib.Core.List.{[], _∷_, _++_, append-nil}
+use mathlib.Core.List.{[], _∷_, _++_, append-assoc, append-nil}
 use Prim.Native.Nat.{ℕ, _-_, _≤_, _<_}
 use native.Mathlib.Omega.{arith}
 use lib.ListN.{length, drop, length-append}
@@ -10,6 +10,7 @@ use lib.Seq.{drop-append-seam}
 use Rattle.meaning.specs.Words.{Word, Words, snoc, find, word}
 use Rattle.meaning.specs.Automaton.{nearest, nearestProper, border}
 use Rattle.meaning.specs.Plain.{Has, Suffix, ProperSuffix, LongestIn}
+use Rattle.meaning.proofs.Lists.{ends-nest}
 use Rattle.meaning.proofs.Find.{Asked, got, lacks, ask, none-or-some, none-unless, find-some}
 use Rattle.meaning.proofs.States.{Within, within-has, within-self, Trie, trie-root}
 
@@ -23,6 +24,12 @@ suffix-empty u = record { before = u; joins = append-nil u }
 pub suffix-longer : {v u : Word} (a : ℕ) → Suffix v u → Suffix v (a ∷ u)
 suffix-longer a s = record { before = a ∷ s .before; joins = ap {B = Word} (λ l. a ∷ l) (s .joins) }
 
+pub suffix-trans : {v u w : Word} → Suffix v u → Suffix u w → Suffix v w
+suffix-trans {v} s s′ = record {
+  before = s′ .before ++ s .before;
+  joins = append-assoc (s′ .before) (s .before) v ∙ ap (λ (x : Word). s′ .before ++ x) (s .joins) ∙ s′ .joins;
+}
+
 pub suffix-cases : (v : Word) (a : ℕ) (u : Word) → Suffix v (a ∷ u) → (v ≡ a ∷ u) ⊎ Suffix v u
 suffix-cases v a u s = go (s .before) (s .joins)
   where
@@ -33,7 +40,7 @@ suffix-cases v a u s = go (s .before) (s .joins)
 pub suffix-length : {v u : Word} → Suffix v u → length v ≤ length u
 suffix-length {v} s = omega (arith, length-append (s .before) v, ap length (s .joins))
 
-suffix-drop : {v u : Word} → Suffix v u → v ≡ drop (length u - length v) u
+pub suffix-drop : {v u : Word} → Suffix v u → v ≡ drop (length u - length v) u
 suffix-drop {v} {u} s =
     let n : length (s .before) ≡ length u - length v = omega (arith, length-append (s .before) v, ap length (s .joins)) in
     sym (drop-append-seam (s .before) v) ∙ rw (s .joins) (rw n)
@@ -41,6 +48,12 @@ suffix-drop {v} {u} s =
 -- two suffixes of one length are one
 pub suffix-one : {v w u : Word} → Suffix v u → Suffix w u → length v ≡ length w → v ≡ w
 suffix-one {u = u} s t e = suffix-drop s ∙ ap (λ (n : ℕ). drop (length u - n) u) e ∙ sym (suffix-drop t)
+
+-- the shorter of two suffixes is a proper suffix of the longer
+pub suffix-inner : {v w u : Word} → Suffix v u → Suffix w u → length v < length w → ProperSuffix v w
+suffix-inner {v} {w} s t l =
+    let (r, e) = ends-nest (t .before) w (s .before) v (t .joins ∙ sym (s .joins)) (omega arith) in
+    record { suffix = record { before = r; joins = sym e }; proper = λ q. omega (arith, ap length q) }
 
 suffix-nil : (v : Word) → Suffix v [] → v ≡ []
 suffix-nil [] s = refl

@@ -7,7 +7,6 @@ use Prim.Native.Nat.{ℕ, _≤_, _<_}
 use lib.ListN.{length, getD, take}
 use Rattle.meaning.specs.Numbers.{letterValues, mostWords, longestWord, mostLetters}
 use Rattle.meaning.specs.Words.{Word, Words, Reading, find, word, size, total, joined}
-use Rattle.meaning.specs.Readings.{countAt}
 
 -- u is one of the words Y
 pub record Has (Y : Words) (u : Word) : Type 0 where
@@ -104,8 +103,14 @@ pub data Star (X : Words) : Word → Type 0 where
   empty : Star X []
   more : {w u v : Word} → Has X w → Star X u → v ≡ w ++ u → Star X v
 
--- p is the greatest position up to i whose count isn't 0
-pub record Farthest (X : Words) (t : Word) (i p : ℕ) : Type 0 where
-  pub within : p ≤ i
-  pub reached : countAt X t p ≢ 0
-  pub past : (j : ℕ) → p < j → j ≤ i → countAt X t j ≡ 0
+-- u is a prefix of some concatenation of words
+pub record Viable (X : Words) (u : Word) : Type 0 where
+  pub whole : Word
+  pub star : Star X whole
+  pub prefix : Prefix u whole
+
+-- p is the greatest length of a prefix of t that is also a prefix of some concatenation of words
+pub record Farthest (X : Words) (t : Word) (p : ℕ) : Type 0 where
+  pub within : p ≤ length t
+  pub reached : Viable X (take p t)
+  pub greatest : (j : ℕ) → j ≤ length t → Viable X (take j t) → j ≤ p

@@ -2,10 +2,9 @@
 use mathlib.Core.Bool.{Bool, true, false}
 use mathlib.Core.List.{List, [], _∷_, _++_, map}
 use Prim.Native.Nat.{ℕ, zero, suc, _+_, _-_, min}
-use lib.Dec.{eqb}
-use lib.ListN.{length, take}
+use lib.ListN.{length, take, drop}
 use Rattle.meaning.specs.Numbers.{mostCounted}
-use Rattle.meaning.specs.Words.{if_then_else_, Word, Words, Reading, snoc, size}
+use Rattle.meaning.specs.Words.{if_then_else_, Word, Words, Reading, snoc, has, size}
 use Rattle.meaning.specs.Automaton.{states, nearest, chain}
 use Rattle.meaning.specs.Table.{stored}
 
@@ -69,10 +68,23 @@ probesTo X t (suc i) = probesTo X t i + length (chain X (take (suc i) t))
 abbrev pub probes : Words → Word → ℕ
 probes X t = probesTo X t (length t)
 
--- the greatest position up to i whose count isn't 0
+-- the first j letters have a reading, and those after them, up to position i, begin a word or are none
+abbrev pub viableAt : Words → Word → ℕ → ℕ → Bool
+viableAt X t i j = if readable X t j then has (states X) (drop j (take i t)) else false
+
+-- .. for one of the positions 0 to j
+abbrev pub viableBy : Words → Word → ℕ → ℕ → Bool
+viableBy X t i zero = viableAt X t i zero
+viableBy X t i (suc j) = if viableAt X t i (suc j) then true else viableBy X t i j
+
+-- the first i letters can still become a reading
+abbrev pub viable : Words → Word → ℕ → Bool
+viable X t i = viableBy X t i i
+
+-- the greatest position up to i of which this is so
 abbrev pub farthestTo : Words → Word → ℕ → ℕ
 farthestTo X t zero = 0
-farthestTo X t (suc i) = if eqb (countAt X t (suc i)) 0 then farthestTo X t i else suc i
+farthestTo X t (suc i) = if viable X t (suc i) then suc i else farthestTo X t i
 
 abbrev pub farthest : Words → Word → ℕ
 farthest X t = farthestTo X t (length t)

@@ -1,4 +1,4 @@
--- Demands 2 and 3 of document 01, over the contracts of the public calls.
+-- Demands 2 and 3 of document 01, and what farthest is, over the contracts of the public calls.
 use mathlib.Core.Path.{_≡_, refl, sym, ap, _∙_}
 use mathlib.Core.Logic.{_↔_}
 use mathlib.Core.Bool.{Bool, true, false}
@@ -14,8 +14,9 @@ use Rattle.meaning.specs.Words.{Word, Words, Reading}
 use Rattle.meaning.specs.Table.{over}
 use Rattle.meaning.specs.Readings.{readings, accepted, capped, countAt, probes, farthest}
 use Rattle.meaning.specs.Listing.{isReading, nextReading}
-use Rattle.meaning.specs.Plain.{Dictionary, Star, IsReading, LettersBelow}
+use Rattle.meaning.specs.Plain.{Dictionary, Star, Farthest, IsReading, LettersBelow}
 use Rattle.meaning.proofs.Readings.{accepted-is-star, readings-are, isReading-is}
+use Rattle.meaning.proofs.Farthest.{farthest-is}
 use Rattle.meaning.proofs.Next.{next-at}
 use Rattle.records.specs.Letters.{letter, mapped, identity}
 use Rattle.records.specs.Run.{ran, dictionary}
@@ -102,6 +103,12 @@ module _ (d : List ℕ) {X : Words} {end : ℕ} (is : dictionary identity d ≡ 
       -- demand 3: the count is the number of readings, or 2^64 - 1 where there are more
       pub counts-readings : c ≡ capped (length (readings X t))
       counts-readings = let q = told in cc
+
+      -- farthest is the longest prefix of the text that is also a prefix of some concatenation of words
+      pub reads-farthest : LettersBelow letterValues u → Farthest X u f
+      reads-farthest bytes =
+          let far : f ≡ farthest X t = let q = told in cc in
+          farthest-is X words u f .1 (far ∙ ap (farthest X) (own-bytes u bytes))
 
     -- demand 3: first and then next
     module _ (clear : listRefusal X tb t ss cs ≡ 0) where

@@ -8,7 +8,7 @@ use lib.ListN.{length}
 use Rattle.meaning.specs.Words.{Word, Words, Reading}
 use Rattle.meaning.specs.Automaton.{states, longestChain}
 use Rattle.meaning.specs.Table.{childFrom, table}
-use Rattle.meaning.specs.Readings.{readings, accepted, countAt, stateColumn, countColumn, probes}
+use Rattle.meaning.specs.Readings.{readings, accepted, countAt, stateColumn, countColumn, probes, farthest}
 use Rattle.meaning.specs.Listing.{firstReading, nextReading}
 use Rattle.records.specs.Letters.{identity}
 use Rattle.records.specs.Record.{blockMark}
@@ -166,6 +166,14 @@ texts = aaaaab ∷ [] ∷ aaa ∷ (b ∷ a ∷ []) ∷ []
 pub sample-book : book identity (wordRecords E ++ blockRecords texts) ≡ opened E 32 texts
 unfolding run blocks identity
 sample-book = refl
+
+-- how far each block can be read: aaa breaks off inside a word, and ba is none from the first letter on
+pub sample-farthest : map (farthest E) texts ≡ 6 ∷ 0 ∷ 3 ∷ 0 ∷ []
+sample-farthest = refl
+
+-- words a, abc; text ab: the word that it breaks off in begins before the last position that has a reading
+pub earlier-farthest : farthest ((a ∷ []) ∷ (a ∷ b ∷ 99 ∷ []) ∷ []) (a ∷ b ∷ []) ≡ 2
+earlier-farthest = refl
 
 -- with a word record where a block is due
 pub late-word : bookTells (book identity (wordRecords E ++ blockRecord aaa ++ wordRecord aaa)) ≡ refusal 15 6

@@ -23,7 +23,8 @@
 // - dictionary refused: 1, the refusal's number, its place, and nothing more;
 // - not refused: 0; the numbers of words and states, and r; the table's numbers, seven for each
 //   state, row by row, 65,535 for none; the state column, positions 0 to the text's length; the
-//   count column likewise; the verdict (1 accepted, 0 not), farthest, the count at the end, probes;
+//   count column likewise; the verdict (1 accepted, 0 not), farthest (the greatest length of a prefix
+//   of the text that is also a prefix of some concatenation of words), the count at the end, probes;
 //   for each reading, in the order of listing and 40 at most, the number of its words and its word
 //   numbers left to right; at last the number of readings so listed.
 //

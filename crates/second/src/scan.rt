@@ -2,6 +2,8 @@
 use super::strings::Bytes;
 use super::strings::Part;
 use super::strings::Parts;
+use super::strings::byte_at;
+use super::strings::end_of;
 use super::strings::ends;
 use super::strings::find;
 use super::strings::how_many_end;
@@ -104,13 +106,56 @@ pub fn mixed_counts(h: u64, counts: Counts, len: usize) -> u64 {
     sum
 }
 
-// The greatest position whose count isn't 0.
-fn farthest(counts: Counts, len: usize) -> usize {
+fn least(a: usize, b: usize) -> usize {
+    if a < b { a } else { b }
+}
+
+fn greatest(a: usize, b: usize) -> usize {
+    if a < b { b } else { a }
+}
+
+// How many of the `left` letters of the text from `start` on are those that `word` begins with.
+fn in_common(letters: &[u8; 64], word: Part, text: &[u8; 64], start: usize, left: usize) -> usize {
+    let most = least(word.len, left);
+    for k in 0..most {
+        if byte_at(letters, word.from, k) != byte_at(text, start, k) {
+            return k;
+        }
+    }
+    most
+}
+
+// The place up to which the text from `start` on is the beginning of some word.
+fn begun_to(letters: &[u8; 64], words: Parts, text: &[u8; 64], start: usize, len: usize) -> usize {
+    let count = words.count;
+    let left = if start < len { len - start } else { 0 };
+    let mut far = start;
+    for k in 0..count {
+        let common = in_common(letters, part_at(words, k), text, start, left);
+        far = greatest(
+            far,
+            end_of(Part {
+                from: start,
+                len: common,
+            }),
+        );
+    }
+    far
+}
+
+// The greatest place that a beginning of a word reaches from a position whose count isn't 0.
+fn farthest(
+    letters: &[u8; 64],
+    words: Parts,
+    text: &[u8; 64],
+    len: usize,
+    counts: Counts,
+) -> usize {
     let end = positions(len);
     let mut far = 0;
     for i in 0..end {
         if count_at(counts, i) != 0 {
-            far = i;
+            far = greatest(far, begun_to(letters, words, text, i, len));
         }
     }
     far
@@ -138,7 +183,7 @@ pub fn mixed_scan(
     let count = count_at(counts, len);
     let accepted = if count == 0 { 0 } else { 1 };
     let h1 = mixed(h, accepted);
-    let h2 = mixed(h1, farthest(counts, len) as u64);
+    let h2 = mixed(h1, farthest(letters, words, text, len, counts) as u64);
     let h3 = mixed(h2, count);
     mixed(h3, probes(letters, words, text, len))
 }

@@ -24,6 +24,7 @@ use lists::print_reading_room;
 use lists::print_unscanned;
 use scans::print_column_room;
 use scans::print_counts_at_cap;
+use scans::print_farthest;
 use scans::print_table_refusals;
 use scans::print_text_lengths;
 
@@ -35,6 +36,7 @@ fn print_vectors(set_e: &[u8], book: &[u8], runs: &[u8]) {
     print_number_of_words();
     print_bad_records();
     print_counts_at_cap(runs);
+    print_farthest(b"WD\x01aWD\x03abc");
     print_text_lengths(set_e);
     print_table_refusals(set_e);
     print_column_room(set_e);

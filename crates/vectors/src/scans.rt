@@ -1,4 +1,4 @@
-// Scan: the cap of the count, the limit of a text, and refusals of table and columns.
+// Scan: the cap of the count, farthest, the limit of a text, and refusals of table and columns.
 use super::lines::all_counts_marked;
 use super::lines::all_marked;
 use super::lines::print;
@@ -73,6 +73,17 @@ pub fn print_counts_at_cap(runs: &[u8]) {
     scan_line(b"count-92", runs, &table, &t92, &mut states, &mut counts);
     scan_line(b"count-93", runs, &table, &t93, &mut states, &mut counts);
     scan_line(b"count-93-b", runs, &table, &t94, &mut states, &mut counts);
+}
+
+// With the words a and abc: the last reading of the texts ab and abd ends where abc has begun, and
+// the one breaks off in that word, the other goes astray in it.
+pub fn print_farthest(nested: &[u8]) {
+    let mut table = [7u16; 28];
+    let mut states = [7u16; 4];
+    let mut counts = [7u64; 4];
+    build(nested, &mut table);
+    scan_line(b"far-ab", nested, &table, b"ab", &mut states, &mut counts);
+    scan_line(b"far-abd", nested, &table, b"abd", &mut states, &mut counts);
 }
 
 pub fn print_text_lengths(set_e: &[u8]) {

@@ -15,7 +15,7 @@ wide-requires : tie.Need-wide-requires
 wide-requires c κs = search needs
 
 returns : tie.Need-returns
-returns c = rw (ne-eqb _ _ (λ e. c .if1 .taken (c .before .wide .ensures ∙ e)))
+returns c = rw (ne-eqb _ _ (λ e. c .if1 .taken (c .before .wide .ensures .0 ∙ e)))
 
 mul-result : tie.Need-mul-result
 mul-result c = search needs
@@ -24,7 +24,7 @@ shared-slice-read-result : tie.Need-shared-slice-read-result
 shared-slice-read-result c = search needs
 
 returns-2 : tie.Need-returns-2
-returns-2 c = rw (eq-eqb _ _ (sym (c .before .before .wide .ensures) ∙ c .before .if1 .left))
+returns-2 c = rw (eq-eqb _ _ (sym (c .before .before .wide .ensures .0) ∙ c .before .if1 .left))
 
 pub holds-at-spec : {M : Type 1} → statement M
 holds-at-spec =

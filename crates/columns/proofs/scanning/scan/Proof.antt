@@ -1,7 +1,7 @@
 -- `columns::scanning::scan`: at the loop's head the entries up to position i are written. The loop begins after the first entries
 -- are, so its columns are the lent ones with those set.
-use mathlib.Core.Path.{_∙_}
-use Prim.Native.Nat.{ℕ, suc, _+_, _-_, _<_}
+use mathlib.Core.Path.{sym, _∙_}
+use Prim.Native.Nat.{ℕ, suc, _+_, _-_, _≤_, _<_}
 use native.Mathlib.Omega.{arith}
 use denote.Ref.{now}
 use lib.ListN.{length, set, length-set}
@@ -9,20 +9,21 @@ use Rattle.meaning.specs.Numbers.{longestText}
 use Rattle.meaning.specs.Words.{Words}
 use Rattle.records.specs.Letters.{mapped}
 use Rattle.automaton.proofs.Whole.{table-whole}
+use Rattle.columns.specs.Columns.{Scanned}
 use Rattle.columns.specs.Entries.{Reached, IsEntry}
 use Rattle.columns.specs.Scans.{Room}
 use Rattle.columns.proofs.Entry.{mapped-size}
-use Rattle.columns.proofs.Filling.{Filled, room-first, filled-first, filled-states, filled-counts, filled-reached, filled-on, filled-state-small, filled-probes-small, filled-all}
+use Rattle.columns.proofs.Filling.{Filled, room-first, filled-first, filled-states, filled-counts, filled-reached, filled-on, filled-state-small, filled-probes-small, filled-columns, filled-all}
 use Rattle.columns.proofs.scanning.scan.Statement.{statement}
 use Rattle.columns.proofs.scanning.scan.Tie as tie
 
 abbrev Inv-loop : tie.InvT-loop
-Inv-loop map table text states₀ counts₀ index farthest₀ count₀ probes₀ s₀ i₀ states counts farthest count probes s i =
+Inv-loop map table text states₀ counts₀ index count₀ probes₀ s₀ i₀ states counts count probes s i =
     (X : Words) → Room X (mapped map text) table states₀ counts₀
-    → Filled X (mapped map text) states₀ states counts₀ counts farthest count probes s i
+    → Filled X (mapped map text) states₀ states counts₀ counts count probes s i
 
 abbrev μ-loop : tie.MeasureT-loop
-μ-loop map table text states₀ counts₀ index farthest₀ count₀ probes₀ s₀ i₀ states counts farthest count probes s i =
+μ-loop map table text states₀ counts₀ index count₀ probes₀ s₀ i₀ states counts count probes s i =
     length text - i
 
 abbrev start : tie.After-root-index Inv-loop μ-loop → tie.Start Inv-loop μ-loop
@@ -112,45 +113,66 @@ mul-counts c = record { fits = omega (arith, room c) }
 slice-write-counts-2 : tie.Need-slice-write-counts-2 Inv-loop μ-loop
 slice-write-counts-2 c = omega (arith, room c)
 
-farther-requires : tie.Need-farther-requires Inv-loop μ-loop
-farther-requires c κs = tt
-
 add-probes : tie.Need-add-probes Inv-loop μ-loop
 add-probes c =
-    let after = c .before .before in
+    let after = c .before in
     let turn = after .before .before .before in
     let (X, σ) = start (turn .before .before) .pre in
     let ρ = room-first σ in
     record { fits = omega (arith, filled-probes-small ρ (turn .before .loop .inv X ρ) (place turn) (entry after X ρ), room after .0) }
 
 loop-less : tie.Need-loop-less Inv-loop μ-loop
-loop-less c = omega (arith, c .before .before .before .before .before .loop-test .taken)
+loop-less c = omega (arith, c .before .before .before .before .loop-test .taken)
 
 loop-again : tie.Need-loop-again Inv-loop μ-loop
 loop-again c X ρ =
-    let after = c .before .before in
+    let after = c .before in
     let turn = after .before .before .before in
-    rw (c .before .farther .ensures) (filled-on ρ (turn .before .loop .inv X ρ) (place turn) (entry after X ρ))
+    filled-on ρ (turn .before .loop .inv X ρ) (place turn) (entry after X ρ)
+
+-- after the last turn the columns are those of the text
+ended : (c : tie.After-loop Inv-loop μ-loop) → let a = start (c .before .before) .args in length (mapped (now (a .map)) (now (a .text))) ≤ c .before .loop .i
+ended c =
+    let a = start (c .before .before) .args in
+    omega (arith, c .loop-test .left, mapped-size (now (a .map)) (now (a .text)))
+
+scanned : (c : tie.After-loop Inv-loop μ-loop) (X : Words) → Begun (start (c .before .before)) X
+    → let a = start (c .before .before) .args in let l = c .before .loop in
+    Scanned X (mapped (now (a .map)) (now (a .text))) (now (a .table)) (l .states) (l .counts)
+scanned c X ρ =
+    let a = start (c .before .before) .args in
+    record { table = ρ .table; columns = filled-columns (now (a .states)) (now (a .counts)) (c .before .loop .inv X ρ) (ended c) }
+
+farthest-requires : tie.Need-farthest-requires Inv-loop μ-loop
+farthest-requires c κs =
+    let end = c .before .before in
+    let a = start (end .before .before) in
+    let (X, σ) = a .pre in
+    (X, _, scanned end X (room-first σ), sym (mapped-size (now (a .args .map)) (now (a .args .text))))
 
 same-length : tie.Need-same-length Inv-loop μ-loop
 same-length c =
-    let a = start (c .before .before) in
+    let end = c .before .before .before in
+    let a = start (end .before .before) in
     let (X, σ) = a .pre in
     let ρ = room-first σ in
-    filled-states ρ (c .before .loop .inv X ρ) ∙ length-set {A = ℕ} (now (a .args .states)) 0 0
+    filled-states ρ (end .before .loop .inv X ρ) ∙ length-set {A = ℕ} (now (a .args .states)) 0 0
 
 same-length-2 : tie.Need-same-length-2 Inv-loop μ-loop
 same-length-2 c =
-    let a = start (c .before .before) in
+    let end = c .before .before .before in
+    let a = start (end .before .before) in
     let (X, σ) = a .pre in
     let ρ = room-first σ in
-    filled-counts ρ (c .before .loop .inv X ρ) ∙ length-set {A = ℕ} (now (a .args .counts)) 0 1
+    filled-counts ρ (end .before .loop .inv X ρ) ∙ length-set {A = ℕ} (now (a .args .counts)) 0 1
 
 returns : tie.Need-returns Inv-loop μ-loop
-returns c X ρ =
-    let a = start (c .before .before) .args in
-    filled-all (now (a .states)) (now (a .counts)) (c .before .loop .inv X (room-first ρ))
-    (omega (arith, c .loop-test .left, mapped-size (now (a .map)) (now (a .text))))
+returns c X σ =
+    let end = c .before .before .before in
+    let a = start (end .before .before) .args in
+    let ρ = room-first σ in
+    filled-all (now (a .states)) (now (a .counts)) (end .before .loop .inv X ρ) (ended end)
+    (c .farthest .ensures X _ (scanned end X ρ) (sym (mapped-size (now (a .map)) (now (a .text)))))
 
 pub scan-spec : {M : Type 1} → statement M
 scan-spec =
@@ -169,10 +191,10 @@ scan-spec =
     slice-write-states-2
     mul-counts
     slice-write-counts-2
-    farther-requires
     add-probes
     loop-less
     loop-again
+    farthest-requires
     same-length
     same-length-2
     returns)

@@ -10,7 +10,7 @@ use lib.ListN.{length}
 use Rattle.meaning.specs.Words.{Word, Words}
 use Rattle.meaning.specs.Table.{over}
 use Rattle.meaning.specs.Readings.{accepted, countAt, stateColumn, countColumn, probes, farthest}
-use Rattle.meaning.proofs.Counts.{farthest-is}
+use Rattle.meaning.proofs.Farthest.{farthest-within}
 use Rattle.records.specs.Letters.{mapped}
 use Rattle.records.specs.Run.{Run, dictionary}
 use Rattle.records.specs.Told.{answer}
@@ -97,7 +97,7 @@ cast-t21 : tie.Need-cast-t21
 cast-t21 c =
     let d = c .before .before .before .before .before .before in
     let k = asked d in
-    omega (arith, scans d .far, farthest-is (found k .X) (text (begun (judged k))) .within, fits k .short)
+    omega (arith, scans d .far, farthest-within (found k .X) (text (begun (judged k))), fits k .short)
 
 same-length : tie.Need-same-length
 same-length c = search needs

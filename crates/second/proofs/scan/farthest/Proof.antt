@@ -5,10 +5,10 @@ use Rattle.second.proofs.scan.farthest.Statement.{statement}
 use Rattle.second.proofs.scan.farthest.Tie as tie
 
 abbrev Inv-loop : tie.InvT-loop
-Inv-loop counts len end far₀ i₀ far i = Unit {0}
+Inv-loop letters words text len counts end far₀ i₀ far i = Unit {0}
 
 abbrev μ-loop : tie.MeasureT-loop
-μ-loop counts len end far₀ i₀ far i = end - i
+μ-loop letters words text len counts end far₀ i₀ far i = end - i
 
 positions-requires : tie.Need-positions-requires Inv-loop μ-loop
 positions-requires c κs = tt
@@ -18,6 +18,12 @@ loop-holds c = tt
 
 count-at-requires : tie.Need-count-at-requires Inv-loop μ-loop
 count-at-requires c κs = tt
+
+begun-to-requires : tie.Need-begun-to-requires Inv-loop μ-loop
+begun-to-requires c κs = tt
+
+greatest-requires : tie.Need-greatest-requires Inv-loop μ-loop
+greatest-requires c κs = tt
 
 add-i : tie.Need-add-i Inv-loop μ-loop
 add-i c = omega arith
@@ -40,6 +46,8 @@ farthest-spec =
     positions-requires
     loop-holds
     count-at-requires
+    begun-to-requires
+    greatest-requires
     add-i
     loop-less
     loop-again
