@@ -6,11 +6,11 @@ ghost use Rattle.meaning.specs.Listing.{nextReading};
 ghost use Rattle.listing.specs.Positions.{Giving};
 ghost use Rattle.listing.specs.Changes.{Changes};
 use crate::ending::pick;
-use crate::ending::wide;
 use crate::ending::word_ending;
 use automaton::NONE;
 use automaton::depth;
 use automaton::link;
+use automaton::wide;
 
 // The word at `state` is put in the place of one that also ends at position `end`; the words from entry `kept` on stay. No change
 // where the state is none.

@@ -1,8 +1,6 @@
 // The words that end at a position of the text, longest first: the chain of the state there.
 ghost use mathlib.Core.Path.{_≡_};
-ghost use Prim.Native.Nat.{_≤_};
 ghost use lib.ListN.{take};
-ghost use Rattle.meaning.specs.Numbers.{absent};
 ghost use Rattle.meaning.specs.Words.{Word, Words};
 ghost use Rattle.meaning.specs.Automaton.{states as statesOf, nearest, chain};
 ghost use Rattle.meaning.specs.Table.{stored};
@@ -12,13 +10,8 @@ use automaton::NONE;
 use automaton::depth;
 use automaton::first_word;
 use automaton::link;
+use automaton::wide;
 use automaton::word;
-
-pub fn wide(x: u16) -> usize
-    ensures { λ r. ⌜ (r ≡ x) × (r ≤ absent) ⌝ }
-{
-    x as usize
-}
 
 // The state of the longest word that ends at position i, or none. From there the links lead on.
 fn longest_ending(table: &[u16], states: &[u16], i: usize) -> usize

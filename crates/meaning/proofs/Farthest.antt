@@ -8,8 +8,8 @@ use Prim.Native.Nat.{ℕ, zero, suc, _-_, _≤_, _<_}
 use native.Mathlib.Decide.{decLe, decLt}
 use native.Mathlib.Nat.{le-suc-iff}
 use native.Mathlib.Omega.{arith}
-use lib.ListN.{length, take, drop, length-append, length-take, length-drop, take-append-drop, drop-of-length-le}
-use lib.Seq.{take-take, take-at, drop-at, length-take-le}
+use lib.ListN.{length, take, drop, length-append, length-take, take-append-drop}
+use lib.Seq.{slice, slice-empty, length-slice, take-take, take-at, drop-at, length-take-le}
 use Rattle.meaning.specs.Words.{if_then_else_, Word, Words, has, word}
 use Rattle.meaning.specs.Automaton.{states, border}
 use Rattle.meaning.specs.Readings.{readable, viableAt, viableBy, viable, stateAt, farthestTo, farthest}
@@ -22,7 +22,7 @@ use Rattle.meaning.proofs.Readings.{accepted-is-star}
 use Rattle.meaning.proofs.Counts.{readings-of-prefix}
 use Rattle.meaning.proofs.Columns.{state-longest, state-inside}
 
--- a concatenation of words, and one word more
+-- a concatenation of words and one word more is one
 star-word : {X : Words} {u w : Word} → Star X u → Has X w → Star X (u ++ w)
 star-word {w = w} Star.empty h = Star.more h Star.empty (sym (append-nil w))
 star-word {w = w} (Star.more {w = v} {u = r} k s e) h = Star.more k (star-word s h) (ap (λ (x : Word). x ++ w) e ∙ append-assoc v r w)
@@ -95,7 +95,7 @@ viable-cut {X} {u} = (λ v. cut-star (v .star) u (v .prefix .after) (v .prefix .
           };
         }
 
--- what begins a viable word is viable
+-- a prefix of a viable word is viable
 viable-front : {X : Words} (u v : Word) → Viable X (u ++ v) → Viable X u
 viable-front u v h = record {
   whole = h .whole;
@@ -103,7 +103,11 @@ viable-front u v h = record {
   prefix = record { after = v ++ h .prefix .after; joins = sym (append-assoc u v (h .prefix .after)) ∙ h .prefix .joins };
 }
 
--- the tests say just that
+-- a text up to position j, cut at position i
+cut-at : (t : Word) (i j : ℕ) → i ≤ j → take i t ++ slice i j t ≡ take j t
+cut-at t i j h = ap (λ (u : Word). u ++ slice i j t) (sym (take-take i j t h)) ∙ take-append-drop i (take j t)
+
+-- `viableBy` tries every position up to j
 module _ (X : Words) (t : Word) (i : ℕ) where
   viableBy-here : (j : ℕ) → viableAt X t i (suc j) ≡ true → viableBy X t i (suc j) ≡ true
   viableBy-here j e = ap (λ b. if b then true else viableBy X t i j) e
@@ -133,23 +137,23 @@ module _ (X : Words) (t : Word) (i : ℕ) where
           (λ h. absurd (false≢true (sym q ∙ subst (λ (m : ℕ). viableAt X t i m ≡ true) h e)))
           (le-suc-iff .0 l)
 
--- a reading is a beginning too
+-- a position that has a reading is viable
 pub readable-viable : (X : Words) (t : Word) (i : ℕ) → readable X t i ≡ true → viable X t i ≡ true
 readable-viable X t i e =
-    let at : viableAt X t i i ≡ true = rw (e, drop-of-length-le (take i t) {i = i} (omega (arith, length-take i t)), states-trie X .root) in
+    let at : viableAt X t i i ≡ true = rw (e, slice-empty i t, states-trie X .root) in
     some-viableBy X t i i i (omega arith) at
 
 module _ (X : Words) (D : Dictionary X) (t : Word) where
   readable-star : (j : ℕ) → j ≤ length t → (readable X t j ≡ true) ↔ Star X (take j t)
   readable-star j h = rw (readings-of-prefix X t j h) (accepted-is-star X D (take j t))
 
-  viableAt-is : (i j : ℕ) → j ≤ length t → (viableAt X t i j ≡ true) ↔ (Star X (take j t) × PrefixIn X (drop j (take i t)))
+  viableAt-is : (i j : ℕ) → j ≤ length t → (viableAt X t i j ≡ true) ↔ (Star X (take j t) × PrefixIn X (slice j i t))
   viableAt-is i j h = go (test (readable X t j))
     where
-      go : Tested (readable X t j) → (viableAt X t i j ≡ true) ↔ (Star X (take j t) × PrefixIn X (drop j (take i t)))
+      go : Tested (readable X t j) → (viableAt X t i j ≡ true) ↔ (Star X (take j t) × PrefixIn X (slice j i t))
       go (pass e) = (
         λ q. (readable-star j h .0 e, states-are-prefixes X _ .0 (has-true (states X) _ (rw e at q))),
-        λ q. let k = states-are-prefixes X (drop j (take i t)) .1 (q .1) in rw (e, k .found),
+        λ q. let k = states-are-prefixes X (slice j i t) .1 (q .1) in rw (e, k .found),
       )
       go (fail e) = (
         λ q. absurd (false≢true (rw e at q)),
@@ -165,8 +169,8 @@ module _ (X : Words) (D : Dictionary X) (t : Word) where
           let (s, p) = viableAt-is i k (omega arith) .0 q in
           viable-cut .1 (record {
             front = take k t;
-            back = drop k (take i t);
-            joins = ap (λ (v : Word). v ++ drop k (take i t)) (sym (take-take k i t l)) ∙ take-append-drop k (take i t);
+            back = slice k i t;
+            joins = cut-at t k i l;
             star = s;
             begins = p;
           })
@@ -177,14 +181,12 @@ module _ (X : Words) (D : Dictionary X) (t : Word) where
           let k = length (c .front) in
           let l : k ≤ i = omega (arith, length-append (c .front) (c .back), ap length (c .joins), length-take i t) in
           let f : take k t ≡ c .front = sym (take-take k i t l) ∙ ap (take k) (sym (c .joins)) ∙ take-at (c .front) (c .back) k refl in
-          let b : drop k (take i t) ≡ c .back = ap (drop k) (sym (c .joins)) ∙ drop-at (c .front) (c .back) k refl in
+          let b : slice k i t ≡ c .back = ap (drop k) (sym (c .joins)) ∙ drop-at (c .front) (c .back) k refl in
           some-viableBy X t i i k l (viableAt-is i k (omega arith) .1 (rw f (c .star), rw b (c .begins)))
 
   -- the prefixes of a viable prefix are viable
   viable-lower : (i j : ℕ) → i ≤ j → Viable X (take j t) → Viable X (take i t)
-  viable-lower i j h v =
-      viable-front (take i t) (drop i (take j t))
-      (subst (Viable X) (sym (ap (λ (u : Word). u ++ drop i (take j t)) (sym (take-take i j t h)) ∙ take-append-drop i (take j t))) v)
+  viable-lower i j h v = viable-front (take i t) (slice i j t) (rw (cut-at t i j h) v)
 
 -- p is the greatest viable position up to i
 record Greatest (X : Words) (t : Word) (i p : ℕ) : Type 0 where
@@ -259,16 +261,16 @@ module _ (X : Words) (t : Word) (i : ℕ) (h : i ≤ length t) where
   letters = length-take-le i t h
 
   -- what stands from position j on
-  from : (j : ℕ) → Suffix (drop j (take i t)) (take i t)
+  from : (j : ℕ) → Suffix (slice j i t) (take i t)
   from j = record { before = take j (take i t); joins = take-append-drop j (take i t) }
 
-  from-length : (j : ℕ) → length (drop j (take i t)) ≡ i - j
-  from-length j = omega (arith, length-drop j (take i t), letters)
+  from-length : (j : ℕ) → length (slice j i t) ≡ i - j
+  from-length j = length-slice j i t h
 
-  no-state : (j : ℕ) → (Has (states X) (drop j (take i t)) → ⊥) → viableAt X t i j ≡ false
-  no-state j none = go (test (readable X t j)) (test (has (states X) (drop j (take i t))))
+  no-state : (j : ℕ) → (Has (states X) (slice j i t) → ⊥) → viableAt X t i j ≡ false
+  no-state j none = go (test (readable X t j)) (test (has (states X) (slice j i t)))
     where
-      go : Tested (readable X t j) → Tested (has (states X) (drop j (take i t))) → viableAt X t i j ≡ false
+      go : Tested (readable X t j) → Tested (has (states X) (slice j i t)) → viableAt X t i j ≡ false
       go (fail e) q = rw e
       go (pass e) (pass q) = absurd (none (has-true (states X) _ q))
       go (pass e) (fail q) = rw (e, q)

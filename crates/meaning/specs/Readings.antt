@@ -2,7 +2,8 @@
 use mathlib.Core.Bool.{Bool, true, false}
 use mathlib.Core.List.{List, [], _∷_, _++_, map}
 use Prim.Native.Nat.{ℕ, zero, suc, _+_, _-_, min}
-use lib.ListN.{length, take, drop}
+use lib.ListN.{length, take}
+use lib.Seq.{slice}
 use Rattle.meaning.specs.Numbers.{mostCounted}
 use Rattle.meaning.specs.Words.{if_then_else_, Word, Words, Reading, snoc, has, size}
 use Rattle.meaning.specs.Automaton.{states, nearest, chain}
@@ -70,7 +71,7 @@ probes X t = probesTo X t (length t)
 
 -- the first j letters have a reading, and those after them, up to position i, begin a word or are none
 abbrev pub viableAt : Words → Word → ℕ → ℕ → Bool
-viableAt X t i j = if readable X t j then has (states X) (drop j (take i t)) else false
+viableAt X t i j = if readable X t j then has (states X) (slice j i t) else false
 
 -- .. for one of the positions 0 to j
 abbrev pub viableBy : Words → Word → ℕ → ℕ → Bool

@@ -18,10 +18,10 @@ use Rattle.meaning.specs.Plain.{Dictionary, Star, Farthest, IsReading, LettersB
 use Rattle.meaning.proofs.Readings.{accepted-is-star, readings-are, isReading-is}
 use Rattle.meaning.proofs.Farthest.{farthest-is}
 use Rattle.meaning.proofs.Next.{next-at}
-use Rattle.records.specs.Letters.{letter, mapped, identity}
+use Rattle.records.specs.Letters.{mapped, identity}
 use Rattle.records.specs.Run.{ran, dictionary}
 use Rattle.records.specs.Told.{Told, answer, refusal}
-use Rattle.records.proofs.Bytes.{identity-at, identity-below}
+use Rattle.records.proofs.Bytes.{identity-below, mapped-identity}
 use Rattle.records.proofs.Accepted as record-laws
 use Rattle.orgamish.specs.Order.{_andThen_, scanRefusal, listRefusal, unreadRefusal, givenRefusal, fitRefusal, firstRefusal, nextRefusal}
 use Rattle.orgamish.specs.Calls.{flag, lengthOf, listed, scanTells, firstLeaves, nextTells, nextLeaves}
@@ -31,13 +31,6 @@ use Rattle.orgamish.specs.declared.answers.ScanAnswer.the-variants.{Scan
 use Rattle.orgamish.proofs.Called.{Came, came-tells, came-leaves, then-comes}
 use Rattle.orgamish.proofs.Listings.{reading-short}
 use Rattle.orgamish.proofs.Determined.{flag-once}
-
--- a block's letters are its bytes
-pub own-bytes : (u : List ℕ) → LettersBelow letterValues u → mapped identity u ≡ u
-own-bytes [] h = refl
-own-bytes (x ∷ u) h =
-    let first : letter identity x ≡ x = identity-at x (h 0 (omega arith)) in
-    let rest = own-bytes u (λ i l. h (suc i) (omega arith)) in cc
 
 -- a list around one of its places
 at-split : {A : Type 0} (Q : List A) (x d : A) (L : List A) → getD (Q ++ x ∷ L) (length Q) d ≡ x
@@ -96,7 +89,7 @@ module _ (d : List ℕ) {X : Words} {end : ℕ} (is : dictionary identity d ≡ 
       accepts-star bytes =
           let flags : flag yes ≡ flag (accepted X t) = let q = told in cc in
           let same = flag-once yes (accepted X t) flags in
-          let own = own-bytes u bytes in
+          let own = mapped-identity u bytes in
           let star = accepted-is-star X words u in
           (λ y. star .0 (ap (accepted X) (sym own) ∙ sym same ∙ y), λ s. same ∙ ap (accepted X) own ∙ star .1 s)
 
@@ -108,7 +101,7 @@ module _ (d : List ℕ) {X : Words} {end : ℕ} (is : dictionary identity d ≡ 
       pub reads-farthest : LettersBelow letterValues u → Farthest X u f
       reads-farthest bytes =
           let far : f ≡ farthest X t = let q = told in cc in
-          farthest-is X words u f .1 (far ∙ ap (farthest X) (own-bytes u bytes))
+          farthest-is X words u f .1 (far ∙ ap (farthest X) (mapped-identity u bytes))
 
     -- demand 3: first and then next
     module _ (clear : listRefusal X tb t ss cs ≡ 0) where
