@@ -1,7 +1,7 @@
 -- The walk along a chain, from a state that is a word to its link. In the end it stands at 65,535: that is no state, so its string
 -- is the empty word, whose chain is empty, and no law needs a case for it.
 use mathlib.Core.Path.{_≡_, refl, sym, ap, _∙_}
-use mathlib.Core.Option.{some}
+use mathlib.Core.Option.{none, some}
 use mathlib.Core.List.{List, [], _∷_}
 use Prim.Native.Nat.{ℕ, _+_, _≤_, _<_, max}
 use native.Mathlib.Numerals.{add-one}
@@ -19,10 +19,10 @@ use Rattle.meaning.proofs.Find.{Asked, got, lacks, ask, none-or-some, find-some
 use Rattle.meaning.proofs.States.{within-self}
 use Rattle.meaning.proofs.Suffixes.{suffix-length, nearest-here, nearest-some, nearest-inside}
 use Rattle.meaning.proofs.Chains.{chain-here, chain-none, chain-nearest, chain-length, word-past}
+use Rattle.meaning.proofs.Rows.{stored-none, stored-some}
 use Rattle.automaton.specs.Layout.{fieldAt}
 use Rattle.automaton.specs.Tree.{Column, Tree, linkOf}
 use Rattle.automaton.specs.Filling.{LinkedAt}
-use Rattle.automaton.proofs.Linking.{is-word, no-word}
 
 -- state v is a word
 pub record AtWord (X S : Words) (v : ℕ) : Type 0 where
@@ -110,6 +110,14 @@ module _ {X S : Words} {t : List ℕ} (τ : Tree X S t) where
             less = omega (arith, left-is (b .on), left-is (record { here = λ f. h }), b .within, ap length e);
           }
 
+-- what the word column says of state v
+module _ {X S : Words} {t : List ℕ} (τ : Tree X S t) {v : ℕ} (inside : v < length S) {k : ℕ} (e : k ≡ fieldAt t v wordField) where
+  is-word : (k ≡ absent → ⊥) → find X (word S v) ≡ some k
+  is-word f = stored-some _ (e ∙ τ .numbers v inside) f
+
+  no-word : k ≡ absent → find X (word S v) ≡ none
+  no-word f = stored-none _ (λ n q. omega (arith, find-some X (word S v) n q .inside, τ .words .few)) (e ∙ τ .numbers v inside) f
+
 -- the chain of state s begins at s, where that is a word, and else at its link
 module _ {X S : Words} {t : List ℕ} {s k : ℕ} (h : LinkedAt X S t s) (e : k ≡ fieldAt t s wordField) where
   pub first-itself : (k ≡ absent → ⊥) → s ≡ stored (nearest S X (word S s))
@@ -117,28 +125,26 @@ module _ {X S : Words} {t : List ℕ} {s k : ℕ} (h : LinkedAt X S t s) (e : k 
       sym (ap stored (nearest-here S X _ k (is-word (h .tree) (h .inside) e f) ∙ h .tree .states .trie .once s (h .inside)))
 
   pub first-link : k ≡ absent → {r : ℕ} → r ≡ fieldAt t s linkField → r ≡ stored (nearest S X (word S s))
-  first-link f i = i ∙ h .links s (h .inside) ∙ sym (ap stored (word-past X S _ (no-word (h .tree) (h .inside) e f)))
+  first-link f i = i ∙ h .link ∙ sym (ap stored (word-past X S _ (no-word (h .tree) (h .inside) e f)))
 
 -- k words are counted, and those from v on are left
 pub record Counting (X S : Words) (u : Word) (k v : ℕ) : Type 0 where
   pub on : OnChain X S v
   pub total : k + length (chain X (word S v)) ≡ length (chain X u)
 
-module _ {X S : Words} {t : List ℕ} {s : ℕ} (h : LinkedAt X S t s) where
-  pub count-start : {v : ℕ} → v ≡ stored (nearest S X (word S s)) → Counting X S (word S s) 0 v
-  count-start e = let b = begins (h .tree) (word S s) e in record { on = b .on; total = omega (arith, ap length (b .same)) }
+module _ {X S : Words} {t : List ℕ} (τ : Tree X S t) {u : Word} where
+  pub count-start : {v : ℕ} → v ≡ stored (nearest S X u) → Counting X S u 0 v
+  count-start e = let b = begins τ u e in record { on = b .on; total = omega (arith, ap length (b .same)) }
 
-  module _ {k v : ℕ} (φ : Counting X S (word S s) k v) where
-    pub count-end : v ≡ absent → k ≡ length (chain X (word S s))
-    count-end e = omega (arith, φ .total, ap length (chain-end (h .tree) e))
+  module _ {k v : ℕ} (φ : Counting X S u k v) where
+    pub count-end : v ≡ absent → k ≡ length (chain X u)
+    count-end e = omega (arith, φ .total, ap length (chain-end τ e))
 
-    pub count-on : (f : v ≡ absent → ⊥) {l : ℕ} → Next X S t v (φ .on .here f .number) l → Counting X S (word S s) (k + 1) l
+    pub count-on : (f : v ≡ absent → ⊥) {l : ℕ} → Next X S t v (φ .on .here f .number) l → Counting X S u (k + 1) l
     count-on f n = record { on = n .on; total = omega (arith, φ .total, ap length (n .is)) }
 
-    pub count-small : k ≤ longestWord
-    count-small =
-        let short = h .tree .states .short (word S s) s (h .tree .states .trie .once s (h .inside)) in
-        omega (arith, φ .total, chain-length X (word S s))
+    pub count-small : {s : ℕ} → find S u ≡ some s → k ≤ longestWord
+    count-small e = omega (arith, φ .total, chain-length X u, τ .states .short u _ e)
 
 -- the longest chain of all is r, that of the states below s, or that of a state from s on
 pub record LongestTo (X S : Words) (r s : ℕ) : Type 0 where

@@ -7,7 +7,7 @@ use Prim.Native.Nat.{ℕ, suc, _+_, _*_, _≤_, _<_}
 use native.Mathlib.Decide.{ℕ-discrete}
 use native.Mathlib.Numerals.{add-one}
 use native.Mathlib.Omega.{arith}
-use lib.ListN.{length, getD, take, drop, take-append-drop, length-take}
+use lib.ListN.{length, getD, take, drop, take-append-drop, length-take, length-set}
 use lib.Seq.{take-suc, take-all}
 use Rattle.meaning.specs.Numbers.{mostWords, absent}
 use Rattle.meaning.specs.Words.{Word, Words, snoc, find, word}
@@ -18,11 +18,9 @@ use Rattle.meaning.proofs.Find.{none-or-some, FirstAt, find-some, find-new, fin
 use Rattle.meaning.proofs.States.{extends-length, add-extends, addAll-append, addAll-extends, prefixes-snoc, prefixes-append}
 use Rattle.automaton.specs.Layout.{fieldAt, setField, HasRow}
 use Rattle.automaton.specs.Tree.{Column}
-use Rattle.automaton.specs.Filling.{SameBut}
 use Rattle.automaton.specs.Insertion.{Growing, Open, Reaching, Insertable, Inserted}
 use Rattle.automaton.proofs.Walk.{state-row}
-use Rattle.automaton.proofs.Column.{same-set, right-set}
-use Rattle.automaton.proofs.Cells.{set-other-row, set-past}
+use Rattle.automaton.proofs.Cells.{set-here, set-other-field, set-other-row, set-past}
 
 -- the states with the prefixes of the first i letters
 abbrev pub statesTo : Words → Word → ℕ → Words
@@ -53,11 +51,8 @@ pub record Partly (X S : Words) (w : Word) (i : ℕ) (t₀ t index : List ℕ) (
 -- the number k of the word w, which is the state p
 module _ {X S : Words} {t index : List ℕ} {n : ℕ} (γ : Growing X S t index n) (w : Word) {p k : ℕ} (here : find S w ≡ some p)
     (new : find X w ≡ none) (nonempty : 1 ≤ length w) (number : k ≡ length X) (few : k < mostWords) where
-  same : SameBut wordField (length S) t (setField t p wordField k)
-  same = same-set t k (omega arith) (find-some S w p here .inside)
-
   kept : (j : ℕ) (f : Word → ℕ) → (j < width) × (j ≢ wordField) → Column S t j f → Column S (setField t p wordField k) j f
-  kept j f h c s l = same .fields s j (h .0) (h .1) ∙ c s l
+  kept j f h c s l = set-other-field t p wordField k s j (omega arith) (h .0) (h .1) ∙ c s l
 
   numbers : Column S (setField t p wordField k) wordField (λ u. stored (find (snoc X w) u))
   numbers s l = go (ℕ-discrete s p)
@@ -66,8 +61,9 @@ module _ {X S : Words} {t index : List ℕ} {n : ℕ} (γ : Growing X S t index 
       go (yes e) =
           let f = find-some S w p here in
           rw e
-          (right-set (γ .tree) wordField (λ u. stored (find (snoc X w) u)) (omega arith) (f .inside)
-          (number ∙ ap stored (sym (ap (find (snoc X w)) (f .reads) ∙ find-new X w new))))
+          (set-here t p wordField k (omega arith) (state-row (γ .tree) (f .inside))
+          ∙ number
+          ∙ ap stored (sym (ap (find (snoc X w)) (f .reads) ∙ find-new X w new)))
       go (no d) =
           set-other-row t p wordField k s wordField (omega arith) (omega arith) d
           ∙ γ .tree .numbers s l
@@ -82,7 +78,7 @@ module _ {X S : Words} {t index : List ℕ} {n : ℕ} (γ : Growing X S t index 
         within = λ u f. find-other X w u (λ e. none-or-some (rw (← e) at f) here) ∙ γ .tree .words .within u f;
         few = omega (arith, snoc-length X w);
       };
-      room = omega (arith, same .long, γ .tree .room);
+      room = omega (arith, length-set t (width * p + wordField) k, γ .tree .room);
       letters = kept letterField (λ u. stored (lastLetter u)) (omega arith) (γ .tree .letters);
       children = kept childField (λ u. stored (firstChild S u)) (omega arith) (γ .tree .children);
       siblings = kept siblingField (λ u. stored (nextSibling S u)) (omega arith) (γ .tree .siblings);

@@ -1,12 +1,11 @@
 pub mod Cells
 pub mod Walk
-pub mod Column
+pub mod Known
 pub mod Climb
 pub mod NewState
 pub mod Grow
 pub mod Inserting
 pub mod Queue
-pub mod Linking
 pub mod Chain
 pub mod RootIndex
 pub mod Copied

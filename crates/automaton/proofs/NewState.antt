@@ -1,21 +1,14 @@
 -- What one new state, the child of u by the letter a, changes of the states and of the pointers to children: of these one.
-use mathlib.Core.Path.{_≡_, refl, sym, _∙_, ap}
+use mathlib.Core.Path.{_≡_, refl, sym, _∙_}
 use mathlib.Core.Logic.{_≢_, ⊎-elim}
 use mathlib.Core.Option.{none, some}
-use mathlib.Core.List.{[], _∷_, _++_, append-nil}
-use Prim.Native.Nat.{ℕ, suc, _-_, _≤_, _<_}
+use Prim.Native.Nat.{ℕ, suc, _≤_, _<_}
 use native.Mathlib.Decide.{decLt}
 use native.Mathlib.Omega.{arith}
-use lib.ListN.{length}
-use lib.Seq.{append-snoc}
-use Rattle.meaning.specs.Numbers.{letterValues, longestWord, mostStates}
 use Rattle.meaning.specs.Words.{Word, Words, snoc, find}
-use Rattle.meaning.specs.Automaton.{prefixes, add}
 use Rattle.meaning.specs.Table.{childFrom, firstChild, nextSibling}
-use Rattle.meaning.specs.Plain.{Has}
-use Rattle.meaning.proofs.Lists.{trichotomy, Snoc, nothing, last, snoc-view, snoc-inj, snoc-length}
+use Rattle.meaning.proofs.Lists.{trichotomy, Snoc, nothing, last, snoc-view}
 use Rattle.meaning.proofs.Find.{Alike, alike, apart, compare, none-or-some}
-use Rattle.meaning.proofs.States.{Bounded, WordsIn, add-extends, add-other, add-trie, extends-within}
 use Rattle.meaning.proofs.Children.{NoChild, childFrom-elsewhere, childFrom-above, childFrom-before, sibling-snoc}
 use Rattle.automaton.specs.Insertion.{Holder, own, child}
 

@@ -3,7 +3,7 @@ use mathlib.Core.Path.{_≡_, refl, sym, ap, ap₂, _∙_, subst}
 use mathlib.Core.Logic.{_⊎_, inl, inr}
 use mathlib.Core.Option.{some}
 use mathlib.Core.List.{List, [], _∷_}
-use Prim.Native.Nat.{ℕ, zero, suc, _+_, _-_, _≤_, _<_}
+use Prim.Native.Nat.{ℕ, zero, suc, _+_, _*_, _-_, _≤_, _<_}
 use native.Mathlib.Decide.{decLt, ℕ-discrete}
 use native.Mathlib.Nat.{lt-of-not-le}
 use native.Mathlib.Omega.{arith}
@@ -13,20 +13,22 @@ use lib.Seq.{getD-set-same, getD-set-other}
 use borrow.Author.Tests.{ne-eqb}
 use Rattle.meaning.specs.Numbers.{letterValues, mostStates, absent}
 use Rattle.meaning.specs.Words.{if_then_else_, Word, Words, snoc, find, word}
-use Rattle.meaning.specs.Automaton.{border}
-use Rattle.meaning.specs.Table.{stored, childFrom, lastLetter, letterField, siblingField, borderField}
+use Rattle.meaning.specs.Automaton.{nearest, border, link}
+use Rattle.meaning.specs.Table.{stored, childFrom, lastLetter, width, letterField, siblingField, borderField, linkField}
 use Rattle.meaning.proofs.Lists.{Snoc, nothing, last, snoc-view, snoc-length}
 use Rattle.meaning.proofs.Find.{none-or-some, some-inj, find-some}
 use Rattle.meaning.proofs.States.{Bounded, trie-front}
 use Rattle.meaning.proofs.Children.{lastLetter-snoc}
-use Rattle.meaning.proofs.Suffixes.{proper-inside}
+use Rattle.meaning.proofs.Suffixes.{proper-inside, proper-shorter}
+use Rattle.meaning.proofs.Chains.{link-of-border}
+use Rattle.meaning.proofs.Rows.{stored-small}
 use Rattle.automaton.specs.Layout.{fieldAt, setField, HasRow}
-use Rattle.automaton.specs.Tree.{Right, borderOf}
-use Rattle.automaton.specs.Filling.{SameBut, Grown, Filled}
-use Rattle.automaton.specs.Queue.{Settled, unsettled, depthIn, Queued, Taking, Settling, Longer, Settles, Taken, Unbordered}
-use Rattle.automaton.proofs.Cells.{set-here, set-other-row}
+use Rattle.automaton.specs.Tree.{borderOf, linkOf}
+use Rattle.automaton.specs.Insertion.{Growing}
+use Rattle.automaton.specs.Filling.{Bordered, LinkedAt, Known, SameTree, Grown, Completed}
+use Rattle.automaton.specs.Queue.{Settled, unsettled, depthIn, Queued, Taking, Settling, Longer, Settles, Taken}
 use Rattle.automaton.proofs.Walk.{Child, state-row, state-small, more, no-more, left, left-same, left-less}
-use Rattle.automaton.proofs.Column.{same-refl, same-trans, same-tree, grown-refl, grown-trans, grown-set, right-set, grown-bordered}
+use Rattle.automaton.proofs.Known.{same-refl, same-trans, same-tree, grown-refl, grown-trans, border-set, other-set, known-set, grown-set}
 use Rattle.automaton.proofs.Climb.{root-word, root-inside, root-only}
 
 -- the number of states without a border
@@ -42,24 +44,30 @@ unsettled-all t (suc m) h =
     ap₂ (λ x r. (if eqb x absent then 1 else 0) + r) (h (suc m) (omega arith) (omega arith)) (unsettled-all t m (λ s l. h s (omega arith)))
     ∙ omega arith
 
-unsettled-set : (t : List ℕ) (m c b : ℕ) → c ≤ m → 0 < c → HasRow t c → fieldAt t c borderField ≡ absent → (b ≡ absent → ⊥)
-    → suc (unsettled (setField t c borderField b) m) ≡ unsettled t m
-unsettled-set t zero c b l h r e f = absurd (omega arith)
-unsettled-set t (suc m) c b l h r e f = go (ℕ-discrete (suc m) c) (λ k. unsettled-set t m c b k h r e f)
+-- one state more has its border
+unsettled-less : (t t′ : List ℕ) (m c : ℕ) → c ≤ m → 0 < c → fieldAt t c borderField ≡ absent → Settled t′ c
+    → ((s : ℕ) → (s ≡ c → ⊥) → fieldAt t′ s borderField ≡ fieldAt t s borderField) → suc (unsettled t′ m) ≡ unsettled t m
+unsettled-less t t′ zero c l h old new other = absurd (omega arith)
+unsettled-less t t′ (suc m) c l h old new other = go (ℕ-discrete (suc m) c) (λ k. unsettled-less t t′ m c k h old new other)
   where
-    t′ : List ℕ
-    t′ = setField t c borderField b
-
-    other : (s : ℕ) → (s ≡ c → ⊥) → fieldAt t′ s borderField ≡ fieldAt t s borderField
-    other s d = set-other-row t c borderField b s borderField (omega arith) (omega arith) d
-
     go : Dec (suc m ≡ c) → (c ≤ m → suc (unsettled t′ m) ≡ unsettled t m) → suc (unsettled t′ (suc m)) ≡ unsettled t (suc m)
-    go (yes q) more =
-        let new : fieldAt t′ (suc m) borderField ≡ b = rw q (set-here t c borderField b (omega arith) r) in
-        let old : fieldAt t (suc m) borderField ≡ absent = rw q e in
+    go (yes e) more =
         let same : unsettled t′ m ≡ unsettled t m = unsettled-same t t′ m (λ s k z. other s (λ i. omega arith)) in
-        rw (new, old, same, ne-eqb b absent f) (omega arith)
+        let before : fieldAt t (suc m) borderField ≡ absent = rw e old in
+        let after : Settled t′ (suc m) = rw e new in
+        rw (before, same, ne-eqb (fieldAt t′ (suc m) borderField) absent after) (omega arith)
     go (no d) more = rw (other (suc m) d) (omega (arith, more (omega arith)))
+
+pub bordered : {X S : Words} {t index q : List ℕ} {tail p : ℕ} → Taking X S t index q tail p → Bordered X S t index p
+bordered τ = record {
+  tree = τ .queued .tree;
+  indexed = τ .queued .indexed;
+  inside = τ .inside;
+  borders = λ v l d. τ .known v l d .border;
+}
+
+longer-refl : {X S : Words} {t index q : List ℕ} {tail p : ℕ} → Taking X S t index q tail p → Longer X S t t index q q tail tail p
+longer-refl {t = t} τ = record { taking = τ; grown = grown-refl t; kept = λ s k. k; more = omega arith; queue = λ i l. refl }
 
 -- a child of p
 module _ {X S : Words} {t index q : List ℕ} {tail p c : ℕ} (σ : Settling X S t index q tail p c) where
@@ -78,6 +86,9 @@ module _ {X S : Words} {t index q : List ℕ} {tail p c : ℕ} (σ : Settling X 
   pub child-row : HasRow t c
   child-row = state-row (σ .taking .queued .tree) child-inside
 
+  pub still-row : (b : ℕ) → HasRow (setField t c borderField b) c
+  still-row b = rw (length-set t (width * c + borderField) b) child-row
+
   pub child-letter : fieldAt t c letterField ≡ σ .letter
   child-letter =
       σ .taking .queued .tree .letters c child-inside
@@ -89,46 +100,52 @@ module _ {X S : Words} {t index q : List ℕ} {tail p c : ℕ} (σ : Settling X 
 
   -- it has its border already
   pub passes : Settled t c → Settles X S t t index q q tail tail p c
-  passes h = record {
-    longer = record { taking = σ .taking; grown = grown-refl t; kept = λ s k. k; more = omega arith; queue = λ i l. refl };
-    settled = h;
-  }
+  passes h = record { longer = longer-refl (σ .taking); settled = h }
 
-  -- its border is b
+  -- its border is b, ..
   module _ {a b : ℕ} (letter : a ≡ fieldAt t c letterField) (is : border S (snoc (word S p) a) ≡ some b) where
     border-is : border S (word S c) ≡ some b
     border-is = ap (border S) (child-reads ∙ ap (snoc (word S p)) (sym (letter ∙ child-letter))) ∙ is
 
+    border-inside : b < length S
+    border-inside = proper-inside S S (word S c) b border-is
+
     pub border-small : b < mostStates
-    border-small = state-small (σ .taking .queued .tree) (proper-inside S S (word S c) b border-is)
+    border-small = state-small (σ .taking .queued .tree) border-inside
 
-    abbrev t′ : List ℕ
-    t′ = setField t c borderField b
+    -- .. no longer than p, so that its link is right, ..
+    pub border-linked : LinkedAt X S t b
+    border-linked = record {
+      tree = σ .taking .queued .tree;
+      inside = border-inside;
+      link = σ .taking .known b border-inside (omega (arith, child-deeper, proper-shorter S S (word S c) b border-is)) .link;
+    }
 
-    module _ (new : fieldAt t c borderField ≡ absent) where
-      fewer : suc (unsettled t′ (length S - 1)) ≡ unsettled t (length S - 1)
-      fewer =
-          let l = child-inside in
-          let d = not-root in
-          unsettled-set t (length S - 1) c b (omega arith) (omega arith) child-row new (λ e. omega (arith, border-small))
+    -- .. and the nearest word there is l
+    module _ {l : ℕ} (nearest-is : l ≡ stored (nearest S X (word S b))) where
+      link-is : l ≡ linkOf X S (word S c)
+      link-is = nearest-is ∙ ap stored (sym (link-of-border X S (σ .taking .queued .tree .words .within) (word S c) b border-is))
 
-      pub room : tail < mostStates
-      room = omega (arith, fewer, σ .taking .queued .count, σ .taking .queued .tree .states .few)
+      pub link-small : l ≤ absent
+      link-small =
+          stored-small (link X S (word S c))
+          (λ m e. omega (arith, state-small (σ .taking .queued .tree) (proper-inside S X (word S c) m e)))
+          link-is
 
-      abbrev q′ : List ℕ
-      q′ = set q tail c
-
-      grown : Grown S borderField (borderOf S) t t′
-      grown = grown-set (σ .taking .queued .tree) borderField (borderOf S) (omega arith) child-inside (sym (ap stored border-is))
-
-      there : fieldAt t′ c borderField ≡ b
-      there = set-here t c borderField b (omega arith) child-row
+      abbrev t′ : List ℕ
+      t′ = setField (setField t c borderField b) c linkField l
 
       other : (s : ℕ) → (s ≡ c → ⊥) → fieldAt t′ s borderField ≡ fieldAt t s borderField
-      other s d = set-other-row t c borderField b s borderField (omega arith) (omega arith) d
+      other s d = other-set (σ .taking .queued .tree) child-inside b l s borderField (omega arith) d
 
       settled : Settled t′ c
-      settled e = omega (arith, there, border-small)
+      settled e = omega (arith, border-set (σ .taking .queued .tree) child-inside b l, border-small)
+
+      known-here : Known X S t′ c
+      known-here = known-set (σ .taking .queued .tree) child-inside b l (sym (ap stored border-is)) link-is
+
+      grown : Grown X S t t′
+      grown = grown-set (σ .taking .queued .tree) child-inside b l (sym (ap stored border-is)) link-is
 
       kept : (s : ℕ) → Settled t s → Settled t′ s
       kept s h e = go (ℕ-discrete s c)
@@ -137,77 +154,91 @@ module _ {X S : Words} {t index q : List ℕ} {tail p c : ℕ} (σ : Settling X 
           go (yes i) = settled (rw i at e)
           go (no d) = h (sym (other s d) ∙ e)
 
-      old : (i : ℕ) → i < tail → getD q′ i 0 ≡ getD q i 0
-      old i l = getD-set-other q tail i c 0 (λ e. omega arith)
+      module _ (new : fieldAt t c borderField ≡ absent) where
+        fewer : suc (unsettled t′ (length S - 1)) ≡ unsettled t (length S - 1)
+        fewer =
+            let inside = child-inside in
+            let other-than-root = not-root in
+            unsettled-less t t′ (length S - 1) c (omega arith) (omega arith) new settled other
 
-      at-end : getD q′ tail 0 ≡ c
-      at-end = getD-set-same q tail c 0 (omega (arith, room, σ .taking .queued .long))
+        pub room : tail < mostStates
+        room = omega (arith, fewer, σ .taking .queued .count, σ .taking .queued .tree .states .few)
 
-      -- what holds of each state of the queue, and of c
-      each : (P : ℕ → Type 0) → ((i : ℕ) → i < tail → P (getD q i 0)) → P c → (i : ℕ) → i < tail + 1 → P (getD q′ i 0)
-      each P h k i l = go (decLt i tail)
-        where
-          go : Dec (i < tail) → P (getD q′ i 0)
-          go (yes m) = subst P (sym (old i m)) (h i m)
-          go (no m) = let e : i ≡ tail = omega arith in subst P (sym (ap (λ (j : ℕ). getD q′ j 0) e ∙ at-end)) k
+        abbrev q′ : List ℕ
+        q′ = set q tail c
 
-      limit : (i : ℕ) → i < tail + 1 → depthIn S q′ i ≤ suc (length (word S p))
-      limit = each (λ s. length (word S s) ≤ suc (length (word S p))) (σ .taking .limit) (omega (arith, child-deeper))
+        old : (i : ℕ) → i < tail → getD q′ i 0 ≡ getD q i 0
+        old i l = getD-set-other q tail i c 0 (λ e. omega arith)
 
-      right : (s : ℕ) → s < length S → Settled t′ s → Right S t′ borderField (borderOf S) s
-      right s l h = go (ℕ-discrete s c)
-        where
-          go : Dec (s ≡ c) → Right S t′ borderField (borderOf S) s
-          go (yes i) = rw i (right-set (σ .taking .queued .tree) borderField (borderOf S) (omega arith) child-inside (sym (ap stored border-is)))
-          go (no d) = grown .kept s l (σ .taking .queued .right s l (λ e. h (other s d ∙ e)))
+        at-end : getD q′ tail 0 ≡ c
+        at-end = getD-set-same q tail c 0 (omega (arith, room, σ .taking .queued .long))
 
-      seen : (s : ℕ) → s < length S → (s ≡ 0) ⊎ Settled t′ s → (i : ℕ) × (i < tail + 1) × (getD q′ i 0 ≡ s)
-      seen s l h = go (ℕ-discrete s c) h
-        where
-          before : (s ≡ 0) ⊎ Settled t s → (i : ℕ) × (i < tail + 1) × (getD q′ i 0 ≡ s)
-          before k = let (i, m, e) = σ .taking .queued .seen s l k in (i, omega arith, old i m ∙ e)
+        -- what holds of each state of the queue, and of c
+        each : (P : ℕ → Type 0) → ((i : ℕ) → i < tail → P (getD q i 0)) → P c → (i : ℕ) → i < tail + 1 → P (getD q′ i 0)
+        each P h k i l = go (decLt i tail)
+          where
+            go : Dec (i < tail) → P (getD q′ i 0)
+            go (yes m) = subst P (sym (old i m)) (h i m)
+            go (no m) = let e : i ≡ tail = omega arith in subst P (sym (ap (λ (j : ℕ). getD q′ j 0) e ∙ at-end)) k
 
-          go : Dec (s ≡ c) → (s ≡ 0) ⊎ Settled t′ s → (i : ℕ) × (i < tail + 1) × (getD q′ i 0 ≡ s)
-          go (yes e) k = (tail, omega arith, at-end ∙ sym e)
-          go (no d) (inl z) = before (inl z)
-          go (no d) (inr k) = before (inr (λ e. k (other s d ∙ e)))
+        limit : (i : ℕ) → i < tail + 1 → depthIn S q′ i ≤ suc (length (word S p))
+        limit = each (λ s. length (word S s) ≤ suc (length (word S p))) (σ .taking .limit) (omega (arith, child-deeper))
 
-      rising : (i j : ℕ) → i ≤ j → j < tail + 1 → depthIn S q′ i ≤ depthIn S q′ j
-      rising i j l h = go (decLt j tail)
-        where
-          go : Dec (j < tail) → depthIn S q′ i ≤ depthIn S q′ j
-          go (yes m) = rw (old i (omega arith), old j m) (σ .taking .queued .rising i j l m)
-          go (no m) =
-              let e : j ≡ tail = omega arith in
-              let end : depthIn S q′ j ≡ suc (length (word S p))
-              = ap (λ (s : ℕ). length (word S s)) (ap (λ (k : ℕ). getD q′ k 0) e ∙ at-end) ∙ child-deeper in
-              rw end (limit i (omega arith))
+        known : (s : ℕ) → s < length S → Settled t′ s → Known X S t′ s
+        known s l h = go (ℕ-discrete s c)
+          where
+            go : Dec (s ≡ c) → Known X S t′ s
+            go (yes i) = rw i known-here
+            go (no d) = grown .kept s l (σ .taking .queued .known s l (λ e. h (other s d ∙ e)))
 
-      pub settles : Settles X S t t′ index q q′ tail (tail + 1) p c
-      settles = record {
-        longer = record {
-          taking = record {
-            queued = record {
-              tree = same-tree (omega arith) (grown .same) (σ .taking .queued .tree);
-              indexed = σ .taking .queued .indexed;
-              long = omega (arith, length-set q tail c, σ .taking .queued .long);
-              root = other 0 (λ e. not-root (sym e)) ∙ σ .taking .queued .root;
-              right = right;
-              entries = each (λ s. s < length S) (σ .taking .queued .entries) child-inside;
-              seen = seen;
-              rising = rising;
-              count = omega (arith, fewer, σ .taking .queued .count);
+        seen : (s : ℕ) → s < length S → (s ≡ 0) ⊎ Settled t′ s → (i : ℕ) × (i < tail + 1) × (getD q′ i 0 ≡ s)
+        seen s l h = go (ℕ-discrete s c) h
+          where
+            before : (s ≡ 0) ⊎ Settled t s → (i : ℕ) × (i < tail + 1) × (getD q′ i 0 ≡ s)
+            before k = let (i, m, e) = σ .taking .queued .seen s l k in (i, omega arith, old i m ∙ e)
+
+            go : Dec (s ≡ c) → (s ≡ 0) ⊎ Settled t′ s → (i : ℕ) × (i < tail + 1) × (getD q′ i 0 ≡ s)
+            go (yes e) k = (tail, omega arith, at-end ∙ sym e)
+            go (no d) (inl z) = before (inl z)
+            go (no d) (inr k) = before (inr (λ e. k (other s d ∙ e)))
+
+        rising : (i j : ℕ) → i ≤ j → j < tail + 1 → depthIn S q′ i ≤ depthIn S q′ j
+        rising i j l h = go (decLt j tail)
+          where
+            go : Dec (j < tail) → depthIn S q′ i ≤ depthIn S q′ j
+            go (yes m) = rw (old i (omega arith), old j m) (σ .taking .queued .rising i j l m)
+            go (no m) =
+                let e : j ≡ tail = omega arith in
+                let end : depthIn S q′ j ≡ suc (length (word S p))
+                = ap (λ (s : ℕ). length (word S s)) (ap (λ (k : ℕ). getD q′ k 0) e ∙ at-end) ∙ child-deeper in
+                rw end (limit i (omega arith))
+
+        pub settles : Settles X S t t′ index q q′ tail (tail + 1) p c
+        settles = record {
+          longer = record {
+            taking = record {
+              queued = record {
+                tree = same-tree (grown .same) (σ .taking .queued .tree);
+                indexed = σ .taking .queued .indexed;
+                long = omega (arith, length-set q tail c, σ .taking .queued .long);
+                root = grown .kept 0 (root-inside (σ .taking .queued .tree .states)) (σ .taking .queued .root);
+                known = known;
+                entries = each (λ s. s < length S) (σ .taking .queued .entries) child-inside;
+                seen = seen;
+                rising = rising;
+                count = omega (arith, fewer, σ .taking .queued .count);
+              };
+              inside = σ .taking .inside;
+              known = λ v l d. grown .kept v l (σ .taking .known v l d);
+              limit = limit;
             };
-            bordered = grown-bordered grown (σ .taking .bordered);
-            limit = limit;
+            grown = grown;
+            kept = kept;
+            more = omega arith;
+            queue = old;
           };
-          grown = grown;
-          kept = kept;
-          more = omega arith;
-          queue = old;
-        };
-        settled = settled;
-      }
+          settled = settled;
+        }
 
 -- the walk along the children of p, while they join the queue: those by letters below b have
 pub record Filling (X S : Words) (t₀ t index q₀ q : List ℕ) (end tail p c : ℕ) : Type 0 where
@@ -218,8 +249,8 @@ pub record Filling (X S : Words) (t₀ t index q₀ q : List ℕ) (end tail p c 
 
 pub fills : {X S : Words} {t index q : List ℕ} {tail p c : ℕ} → Taking X S t index q tail p → c ≡ stored (childFrom S (word S p) 0)
     → Filling X S t t index q q tail tail p c
-fills {t = t} τ e = record {
-  longer = record { taking = τ; grown = grown-refl t; kept = λ s k. k; more = omega arith; queue = λ i l. refl };
+fills τ e = record {
+  longer = longer-refl τ;
   b = 0;
   is = e;
   done = λ x d l. absurd (omega arith);
@@ -275,7 +306,7 @@ module _ {X S : Words} {t₀ t index q₀ q : List ℕ} {end tail p c : ℕ} (φ
 
       pub fills-less : left t′ (fieldAt t′ c siblingField) < left t c
       fills-less =
-          let e : left t′ c ≡ left t c = left-same t t′ c (k .longer .grown .same .fields c letterField (omega arith) (λ z. omega arith)) in
+          let e : left t′ c ≡ left t c = left-same t t′ c (k .longer .grown .same .fields c letterField (omega arith)) in
           rw e at (left-less (k .longer .taking .queued .tree) after)
 
 -- a state other than the root is the child of a state
@@ -305,7 +336,7 @@ parent {S} σ s l h = go (snoc-view (word S s)) refl
 
 -- the first `head` states of the queue are taken out: their children have their borders
 pub record Going (X S : Words) (t₀ t index q : List ℕ) (head tail : ℕ) : Type 0 where
-  pub same : SameBut borderField (length S) t₀ t
+  pub same : SameTree (length S) t₀ t
   pub queued : Queued X S t index q tail
   pub low : head ≤ tail
   pub done : (i : ℕ) → i < head → (x c : ℕ) → find S (snoc (word S (getD q i 0)) x) ≡ some c → Settled t c
@@ -326,20 +357,16 @@ module _ {X S : Words} {t₀ t index q : List ℕ} {head tail : ℕ} (φ : Going
       let shallow : depthIn S q i < d = omega (arith, ap (λ (v : ℕ). length (word S v)) f, up .deeper) in
       inr (φ .done i (out i m shallow) (up .x) s (ap (λ (v : ℕ). find S (snoc (word S v) (up .x))) f ∙ up .child))
 
-  right-of : (s : ℕ) → s < length S → (s ≡ 0) ⊎ Settled t s → Right S t borderField (borderOf S) s
-  right-of s l (inl e) = rw e (φ .queued .root ∙ sym (ap (borderOf S) (root-word (φ .queued .tree .states))))
-  right-of s l (inr h) = φ .queued .right s l h
+  known-of : (s : ℕ) → s < length S → (s ≡ 0) ⊎ Settled t s → Known X S t s
+  known-of s l (inl e) = rw e (φ .queued .root)
+  known-of s l (inr h) = φ .queued .known s l h
 
   -- so the state at the head can be taken out, ..
   pub takes : head < tail → {p : ℕ} → p ≡ getD q head 0 → Taking X S t index q tail p
   takes h {p} e = rw e (record {
     queued = φ .queued;
-    bordered = record {
-      tree = φ .queued .tree;
-      indexed = φ .queued .indexed;
-      inside = φ .queued .entries head h;
-      borders = λ v l m. right-of v l (reached (depthIn S q head) out (length (word S v)) m v l refl);
-    };
+    inside = φ .queued .entries head h;
+    known = λ v l m. known-of v l (reached (depthIn S q head) out (length (word S v)) m v l refl);
     limit = φ .limit h;
   })
     where
@@ -350,12 +377,15 @@ module _ {X S : Words} {t₀ t index q : List ℕ} {head tail : ℕ} (φ : Going
           go (yes k) = k
           go (no k) = absurd (omega (arith, φ .queued .rising head i (omega arith) l))
 
-  -- .. and at the end every state has its border
-  pub ends : tail ≤ head → Filled S borderField (borderOf S) t₀ t
+  -- .. and at the end every state has its border and its link
+  pub ends : tail ≤ head → Completed X S t₀ t
   ends h = record {
-    same = φ .same;
-    right = λ s l. right-of s l (reached (length (word S s)) (λ i m k. omega arith) (length (word S s)) (omega arith) s l refl);
+    whole = record { tree = φ .queued .tree; borders = λ s l. all s l .border; links = λ s l. all s l .link };
+    past = φ .same .past;
   }
+    where
+      all : (s : ℕ) → s < length S → Known X S t s
+      all s l = known-of s l (reached (length (word S s)) (λ i m k. omega arith) (length (word S s)) (omega arith) s l refl)
 
   pub goes : head < tail → {p r : ℕ} {t′ q′ : List ℕ} → p ≡ getD q head 0 → Taken X S t t′ index q q′ tail r p
       → Going X S t₀ t′ index q′ (head + 1) r
@@ -389,20 +419,23 @@ module _ {X S : Words} {t₀ t index q : List ℕ} {head tail : ℕ} (φ : Going
           )
 
 -- the queue of the root alone
-pub begins : {X S : Words} {t index q : List ℕ} → Unbordered X S t index → mostStates ≤ length q → getD q 0 0 ≡ 0
+pub begins : {X S : Words} {t index q : List ℕ} {n : ℕ} → Growing X S t index n → mostStates ≤ length q → getD q 0 0 ≡ 0
     → Going X S t t index q 0 1
-begins {X} {S} {t} {index} {q} υ long e = record {
+begins {X} {S} {t} {index} {q} γ long e = record {
   same = same-refl t;
   queued = record {
-    tree = υ .tree;
-    indexed = υ .indexed;
+    tree = γ .tree;
+    indexed = γ .indexed;
     long = long;
-    root = υ .blank 0 inside;
-    right = λ s l h. absurd (h (υ .blank s l));
+    root = record {
+      border = γ .blank .borders 0 inside ∙ sym (ap (borderOf S) (root-word (γ .tree .states)));
+      link = γ .blank .links 0 inside ∙ sym (ap (linkOf X S) (root-word (γ .tree .states)));
+    };
+    known = λ s l h. absurd (h (γ .blank .borders s l));
     entries = λ i l. subst (λ (s : ℕ). s < length S) (sym (first i l)) inside;
     seen = seen;
     rising = λ i j l h. rw (first i (omega arith), first j h) (omega arith);
-    count = omega (arith, inside, unsettled-all t (length S - 1) (λ s l h. υ .blank s (omega (arith, inside))));
+    count = omega (arith, inside, unsettled-all t (length S - 1) (λ s l h. γ .blank .borders s (omega (arith, inside))));
   };
   low = omega arith;
   done = λ i l. absurd (omega arith);
@@ -410,14 +443,14 @@ begins {X} {S} {t} {index} {q} υ long e = record {
 }
   where
     inside : 0 < length S
-    inside = root-inside (υ .tree .states)
+    inside = root-inside (γ .tree .states)
 
     first : (i : ℕ) → i < 1 → getD q i 0 ≡ 0
     first i l = let z : i ≡ 0 = omega arith in ap (λ (j : ℕ). getD q j 0) z ∙ e
 
     seen : (s : ℕ) → s < length S → (s ≡ 0) ⊎ Settled t s → (i : ℕ) × (i < 1) × (getD q i 0 ≡ s)
     seen s l (inl z) = (0, omega arith, e ∙ sym z)
-    seen s l (inr h) = absurd (h (υ .blank s l))
+    seen s l (inr h) = absurd (h (γ .blank .borders s l))
 
 pub queue-fits : {X S : Words} {t index q : List ℕ} {tail : ℕ} → Queued X S t index q tail → tail ≤ mostStates
 queue-fits κ = omega (arith, κ .count, κ .tree .states .few)

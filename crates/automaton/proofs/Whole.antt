@@ -69,4 +69,4 @@ module _ {X : Words} {t : List ℕ} (ι : IsTable X t) where
   }
 
   pub table-linked : {s : ℕ} → s < length (states X) → LinkedAt X (states X) t s
-  table-linked l = record { tree = table-whole .tree; links = table-whole .links; inside = l }
+  table-linked {s} l = record { tree = table-whole .tree; inside = l; link = table-whole .links s l }

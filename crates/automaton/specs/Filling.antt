@@ -1,14 +1,14 @@
--- What the functions that fill in borders and links ask and leave.
+-- What the functions that fill in borders and links ask and leave, and what those ask that read them.
 use mathlib.Core.Path.{_≡_}
 use mathlib.Core.List.{List}
 use Prim.Native.Nat.{ℕ, _*_, _≤_, _<_}
 use lib.Dec.{eqb}
 use lib.ListN.{length, getD}
 use Rattle.meaning.specs.Numbers.{absent}
-use Rattle.meaning.specs.Words.{if_then_else_, Word, Words, word}
+use Rattle.meaning.specs.Words.{if_then_else_, Words, word}
 use Rattle.meaning.specs.Table.{width, borderField, linkField}
 use Rattle.automaton.specs.Layout.{fieldAt}
-use Rattle.automaton.specs.Tree.{Right, Column, Tree, borderOf, linkOf, Indexed}
+use Rattle.automaton.specs.Tree.{Right, Tree, Whole, borderOf, linkOf, Indexed}
 
 -- where the root goes by a
 abbrev pub rootStep : List ℕ → ℕ → ℕ
@@ -21,40 +21,29 @@ pub record Bordered (X S : Words) (t index : List ℕ) (s : ℕ) : Type 0 where
   pub inside : s < length S
   pub borders : (v : ℕ) → v < length S → length (word S v) ≤ length (word S s) → Right S t borderField (borderOf S) v
 
--- the columns but for column k, and the numbers past the n rows, are the same
-pub record SameBut (k n : ℕ) (t t′ : List ℕ) : Type 0 where
-  pub long : length t′ ≡ length t
-  pub fields : (s j : ℕ) → j < width → (j ≡ k → ⊥) → fieldAt t′ s j ≡ fieldAt t s j
-  pub past : (i : ℕ) → width * n ≤ i → getD t′ i 0 ≡ getD t i 0
-
--- .. and what was right in column k still is
-pub record Grown (S : Words) (k : ℕ) (f : Word → ℕ) (t t′ : List ℕ) : Type 0 where
-  pub same : SameBut k (length S) t t′
-  pub kept : (s : ℕ) → s < length S → Right S t k f s → Right S t′ k f s
-
--- all columns but that of links, of n states
-pub record Ready (X S : Words) (t : List ℕ) (n : ℕ) : Type 0 where
-  pub tree : Tree X S t
-  pub borders : Column S t borderField (borderOf S)
-  pub count : n ≡ length S
-
-pub record ReadyAt (X S : Words) (t : List ℕ) (s : ℕ) : Type 0 where
-  pub tree : Tree X S t
-  pub borders : Column S t borderField (borderOf S)
-  pub inside : s < length S
-
--- column k alone is written, and right
-pub record Filled (S : Words) (k : ℕ) (f : Word → ℕ) (t t′ : List ℕ) : Type 0 where
-  pub same : SameBut k (length S) t t′
-  pub right : Column S t′ k f
-
--- all columns but that of borders
+-- the link of state s is right
 pub record LinkedAt (X S : Words) (t : List ℕ) (s : ℕ) : Type 0 where
   pub tree : Tree X S t
-  pub links : Column S t linkField (linkOf X S)
   pub inside : s < length S
+  pub link : Right S t linkField (linkOf X S) s
 
-pub record Linked (X S : Words) (t : List ℕ) (n : ℕ) : Type 0 where
-  pub tree : Tree X S t
-  pub links : Column S t linkField (linkOf X S)
-  pub count : n ≡ length S
+-- the border and the link of state s are right
+pub record Known (X S : Words) (t : List ℕ) (s : ℕ) : Type 0 where
+  pub border : Right S t borderField (borderOf S) s
+  pub link : Right S t linkField (linkOf X S) s
+
+-- the columns of the tree, and the numbers past the n rows, are the same
+pub record SameTree (n : ℕ) (t t′ : List ℕ) : Type 0 where
+  pub long : length t′ ≡ length t
+  pub fields : (s j : ℕ) → j < borderField → fieldAt t′ s j ≡ fieldAt t s j
+  pub past : (i : ℕ) → width * n ≤ i → getD t′ i 0 ≡ getD t i 0
+
+-- .. and the borders and links that were right still are
+pub record Grown (X S : Words) (t t′ : List ℕ) : Type 0 where
+  pub same : SameTree (length S) t t′
+  pub kept : (s : ℕ) → s < length S → Known X S t s → Known X S t′ s
+
+-- the rows are whole, and past them the table is as it was
+pub record Completed (X S : Words) (t t′ : List ℕ) : Type 0 where
+  pub whole : Whole X S t′
+  pub past : (i : ℕ) → width * length S ≤ i → getD t′ i 0 ≡ getD t i 0

@@ -1,4 +1,4 @@
--- The queue of states that the borders are filled by, and what its functions ask and leave.
+-- The queue of states that borders and links are filled in by, and what its functions ask and leave.
 use mathlib.Core.Path.{_≡_}
 use mathlib.Core.Logic.{_⊎_}
 use mathlib.Core.Option.{some}
@@ -10,10 +10,10 @@ use Rattle.meaning.specs.Numbers.{mostStates, absent}
 use Rattle.meaning.specs.Words.{if_then_else_, Words, snoc, find, word}
 use Rattle.meaning.specs.Table.{borderField}
 use Rattle.automaton.specs.Layout.{fieldAt}
-use Rattle.automaton.specs.Tree.{Right, Column, Tree, borderOf, Indexed}
-use Rattle.automaton.specs.Filling.{Bordered, Grown}
+use Rattle.automaton.specs.Tree.{Tree, Indexed}
+use Rattle.automaton.specs.Filling.{Known, Grown}
 
--- state s has its border
+-- state s has its border, and with it its link
 abbrev pub Settled : List ℕ → ℕ → Type 0
 Settled t s = fieldAt t s borderField ≡ absent → ⊥
 
@@ -31,17 +31,18 @@ pub record Queued (X S : Words) (t index q : List ℕ) (tail : ℕ) : Type 0 whe
   pub tree : Tree X S t
   pub indexed : Indexed S index
   pub long : mostStates ≤ length q
-  pub root : fieldAt t 0 borderField ≡ absent
-  pub right : (s : ℕ) → s < length S → Settled t s → Right S t borderField (borderOf S) s
+  pub root : Known X S t 0
+  pub known : (s : ℕ) → s < length S → Settled t s → Known X S t s
   pub entries : (i : ℕ) → i < tail → getD q i 0 < length S
   pub seen : (s : ℕ) → s < length S → (s ≡ 0) ⊎ Settled t s → (i : ℕ) × (i < tail) × (getD q i 0 ≡ s)
   pub rising : (i j : ℕ) → i ≤ j → j < tail → depthIn S q i ≤ depthIn S q j
   pub count : tail + unsettled t (length S - 1) ≡ length S
 
--- p is taken out: the borders up to its depth are there, and no state of the queue is more than one letter longer
+-- p is taken out: borders and links up to its depth are there, and no state of the queue is more than one letter longer
 pub record Taking (X S : Words) (t index q : List ℕ) (tail p : ℕ) : Type 0 where
   pub queued : Queued X S t index q tail
-  pub bordered : Bordered X S t index p
+  pub inside : p < length S
+  pub known : (v : ℕ) → v < length S → length (word S v) ≤ length (word S p) → Known X S t v
   pub limit : (i : ℕ) → i < tail → depthIn S q i ≤ suc (length (word S p))
 
 -- .. and c is a child of p
@@ -50,10 +51,10 @@ pub record Settling (X S : Words) (t index q : List ℕ) (tail p c : ℕ) : Type
   pub letter : ℕ
   pub child : find S (snoc (word S p) letter) ≡ some c
 
--- more states have their borders, and stand behind the others in the queue
+-- more states have their borders and links, and stand behind the others in the queue
 pub record Longer (X S : Words) (t t′ index q q′ : List ℕ) (tail r p : ℕ) : Type 0 where
   pub taking : Taking X S t′ index q′ r p
-  pub grown : Grown S borderField (borderOf S) t t′
+  pub grown : Grown X S t t′
   pub kept : (s : ℕ) → Settled t s → Settled t′ s
   pub more : tail ≤ r
   pub queue : (i : ℕ) → i < tail → getD q′ i 0 ≡ getD q i 0
@@ -65,9 +66,3 @@ pub record Settles (X S : Words) (t t′ index q q′ : List ℕ) (tail r p c : 
 pub record Taken (X S : Words) (t t′ index q q′ : List ℕ) (tail r p : ℕ) : Type 0 where
   pub longer : Longer X S t t′ index q q′ tail r p
   pub children : (x c : ℕ) → find S (snoc (word S p) x) ≡ some c → Settled t′ c
-
--- a tree without borders
-pub record Unbordered (X S : Words) (t index : List ℕ) : Type 0 where
-  pub tree : Tree X S t
-  pub indexed : Indexed S index
-  pub blank : Column S t borderField (λ u. absent)

@@ -1,20 +1,22 @@
-// The column of borders, filled breadth first: a state's border is found from those of shorter states.
-ghost use mathlib.Core.Path.{_≡_};
+// Borders and links, filled in one pass, breadth first: those of a state are read from the rows of shorter states.
+ghost use lib.ListN.{length};
 ghost use Rattle.meaning.specs.Words.{Words};
-ghost use Rattle.meaning.specs.Table.{borderField};
-ghost use Rattle.automaton.specs.Tree.{borderOf};
-ghost use Rattle.automaton.specs.Filling.{Filled};
-ghost use Rattle.automaton.specs.Queue.{Unbordered, Settling, Settles, Taking, Taken};
+ghost use Rattle.automaton.specs.Insertion.{Growing};
+ghost use Rattle.automaton.specs.Filling.{Completed};
+ghost use Rattle.automaton.specs.Queue.{Settling, Settles, Taking, Taken};
+use crate::chains::first_word;
 use crate::layout::NONE;
 use crate::layout::border;
 use crate::layout::first_child;
 use crate::layout::letter;
 use crate::layout::next_sibling;
 use crate::layout::set_border;
+use crate::layout::set_link;
 use crate::layout::wide;
 use crate::stepping::child_border;
 
-// The border of p's child c, which joins the queue of `tail` states. Tells how many they are then.
+// The border and the link of p's child c, which joins the queue of `tail` states. Tells how many they are then. The border's own
+// row tells the link: no border is climbed for it.
 fn settle(
     table: &mut [u16],
     index: &[u16; 256],
@@ -30,12 +32,14 @@ fn settle(
         return tail;
     }
     let b = child_border(table, index, p, letter(table, c));
+    let l = first_word(table, b);
     set_border(table, c, b);
+    set_link(table, c, l);
     queue[tail] = c as u16;
     tail + 1
 }
 
-// The borders of the children of p, which join the queue.
+// The borders and links of the children of p, which join the queue.
 fn take_out(
     table: &mut [u16],
     index: &[u16; 256],
@@ -55,12 +59,12 @@ fn take_out(
     tail
 }
 
-// The borders of all states, each once: the queue begins with the root, and depths rise along it. At most 2,048 states are taken
-// out; for each the siblings below its own letter are passed at its border, and those borders are climbed that a text of its word
-// would climb.
-pub fn fill_borders(table: &mut [u16], index: &[u16; 256])
-    requires { ⌜ ((X S : Words) × Unbordered X S (now table) (now index)) ⌝ }
-    ensures { λ _. ⌜ ((X S : Words) → Unbordered X S (now (table .entry)) (now (index .entry)) → Filled S borderField (borderOf S) (now (table .entry)) (now (table .exit))) ⌝ }
+// The borders and links of all states, each once: the queue begins with the root, and depths rise along it. At most 2,048 states
+// are taken out; for each the siblings below its own letter are passed at its border, and those borders are climbed that a text of
+// its word would climb. A link costs two reads.
+pub fn complete_rows(table: &mut [u16], index: &[u16; 256])
+    requires { ⌜ ((X S : Words) × Growing X S (now table) (now index) (length S)) ⌝ }
+    ensures { λ _. ⌜ ((X S : Words) → Growing X S (now (table .entry)) (now (index .entry)) (length S) → Completed X S (now (table .entry)) (now (table .exit))) ⌝ }
 {
     let mut queue = [0u16; 2048];
     let mut head = 0;

@@ -1,19 +1,12 @@
 // The whole table of a dictionary that is accepted.
-ghost use mathlib.Core.Path.{_≡_};
-ghost use Prim.Native.Nat.{_*_, _≤_};
-ghost use lib.ListN.{length};
 ghost use Rattle.meaning.specs.Words.{Words};
 ghost use Rattle.automaton.specs.Building.{Buildable, Plantable, Planted, Builds};
-use crate::borders::fill_borders;
+use crate::borders::complete_rows;
 use crate::chains::longest_chain;
 use crate::index::NO_CHILD;
 use crate::insertion::insert_word;
 use crate::layout::NONE;
-use crate::layout::WIDTH;
 use crate::layout::add_row;
-use crate::links::fill_links;
-use crate::rows::copy_rows;
-use crate::rows::same_rows;
 
 // How many states the table has, and how long its longest chain is.
 pub struct Built {
@@ -48,8 +41,7 @@ pub fn build(map: &[u8], dict: &[u8], words: usize, table: &mut [u16]) -> Built
 {
     let mut index = [NO_CHILD; 256];
     let states = plant(map, dict, words, table, &mut index);
-    fill_borders(table, &index);
-    fill_links(table, states);
+    complete_rows(table, &index);
     let longest = longest_chain(table, states);
     Built { states, longest }
 }

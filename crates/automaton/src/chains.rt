@@ -1,10 +1,12 @@
 // The chain of a state: the words that end there, longest first, from link to link.
 ghost use mathlib.Core.Path.{_≡_};
+ghost use Prim.Native.Nat.{_<_};
 ghost use lib.ListN.{length};
 ghost use Rattle.meaning.specs.Words.{Words, word as wordOf};
 ghost use Rattle.meaning.specs.Automaton.{nearest, chain, longestOf};
 ghost use Rattle.meaning.specs.Table.{stored};
-ghost use Rattle.automaton.specs.Filling.{LinkedAt, Linked};
+ghost use Rattle.automaton.specs.Tree.{Whole};
+ghost use Rattle.automaton.specs.Filling.{LinkedAt};
 use crate::layout::NONE;
 use crate::layout::link;
 use crate::layout::word;
@@ -22,8 +24,8 @@ pub fn first_word(table: &[u16], s: usize) -> usize
 
 // How many words end at s, at most 64.
 fn chain_length(table: &[u16], s: usize) -> usize
-    requires { ⌜ ((X S : Words) × LinkedAt X S (now table) s) ⌝ }
-    ensures { λ r. ⌜ ((X S : Words) → LinkedAt X S (now (table .entry)) s → r ≡ length (chain X (wordOf S s))) ⌝ }
+    requires { ⌜ ((X S : Words) × Whole X S (now table) × (s < length S)) ⌝ }
+    ensures { λ r. ⌜ ((X S : Words) → Whole X S (now (table .entry)) → s < length S → r ≡ length (chain X (wordOf S s))) ⌝ }
 {
     let mut k = 0;
     let mut v = first_word(table, s);
@@ -36,8 +38,8 @@ fn chain_length(table: &[u16], s: usize) -> usize
 
 // The greatest number of words that end at one of the n states.
 pub fn longest_chain(table: &[u16], n: usize) -> usize
-    requires { ⌜ ((X S : Words) × Linked X S (now table) n) ⌝ }
-    ensures { λ r. ⌜ ((X S : Words) → Linked X S (now (table .entry)) n → r ≡ longestOf X S) ⌝ }
+    requires { ⌜ ((X S : Words) × Whole X S (now table) × (n ≡ length S)) ⌝ }
+    ensures { λ r. ⌜ ((X S : Words) → Whole X S (now (table .entry)) → n ≡ length S → r ≡ longestOf X S) ⌝ }
 {
     let mut r = 0;
     let mut s = 0;

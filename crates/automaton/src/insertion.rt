@@ -1,7 +1,7 @@
 // Words put into the tree, letter by letter.
 ghost use mathlib.Core.Path.{_≡_};
-ghost use Prim.Native.Nat.{_≤_, _<_};
-ghost use lib.ListN.{length, getD, set};
+ghost use Prim.Native.Nat.{_<_};
+ghost use lib.ListN.{getD};
 ghost use Rattle.meaning.specs.Numbers.{absent, letterValues, mostStates};
 ghost use Rattle.meaning.specs.Words.{Words, word};
 ghost use Rattle.records.specs.Letters.{mapped};

@@ -1,7 +1,6 @@
 // The layout of a row: no other place computes an index into a table.
 ghost use mathlib.Core.Path.{_≡_};
-ghost use Prim.Native.Nat.{_+_, _*_, _≤_, _<_};
-ghost use lib.ListN.{length};
+ghost use Prim.Native.Nat.{_*_, _≤_, _<_};
 ghost use lib.Seq.{sets};
 ghost use Rattle.meaning.specs.Numbers.{absent};
 ghost use Rattle.meaning.specs.Table.{width, letterField, childField, siblingField, depthField, wordField, borderField, linkField};

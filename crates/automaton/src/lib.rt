@@ -7,7 +7,6 @@ mod index;
 mod insertion;
 mod layout;
 mod lending;
-mod links;
 mod rows;
 mod stepping;
 

@@ -1,5 +1,4 @@
 // The scan of a text, which writes its columns.
-ghost use mathlib.Core.Path.{_≡_};
 ghost use Rattle.meaning.specs.Words.{Words};
 ghost use Rattle.records.specs.Letters.{mapped};
 ghost use Rattle.columns.specs.Scans.{Room, Scans};

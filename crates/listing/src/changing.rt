@@ -1,5 +1,4 @@
 // The change that makes the next reading.
-ghost use mathlib.Core.Path.{_≡_};
 ghost use lib.ListN.{take};
 ghost use Rattle.meaning.specs.Words.{Word, Words};
 ghost use Rattle.meaning.specs.Listing.{nextReading};

@@ -1,6 +1,5 @@
 // The first reading of a text, and the one after a given reading. Both cost a few times the text's length times r: at the limits
 // 4,096 letters, and chains of 64 words.
-ghost use mathlib.Core.Path.{_≡_};
 ghost use mathlib.Core.List.{head?};
 ghost use lib.ListN.{take};
 ghost use Rattle.meaning.specs.Words.{Word, Words};

@@ -130,11 +130,12 @@ module _ (X S : Words) where
   word-past [] e = nearest-end S X e
   word-past (a ∷ u) e = nearest-past S X a u e
 
-  link-of-border : Within X S → (v : Word) (b : ℕ) → border S v ≡ some b → link X S v ≡ nearest S X (word S b)
+  -- the link is the nearest word at the border: ..
+  pub link-of-border : Within X S → (v : Word) (b : ℕ) → border S v ≡ some b → link X S v ≡ nearest S X (word S b)
   link-of-border i [] b h = none-or-some refl h
   link-of-border i (a ∷ u) b h = word-of-state i u b h
 
-  -- the link is the border where that is a word, and else the border's link
+  -- .. the border where that is a word, and else the border's link
   pub link-is-border : Within X S → (v : Word) (b n : ℕ) → border S v ≡ some b → find X (word S b) ≡ some n → link X S v ≡ some b
   link-is-border i v b n h e = link-of-border i v b h ∙ nearest-here S X _ n e ∙ proper-number S S v b h
 

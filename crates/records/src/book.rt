@@ -1,8 +1,7 @@
 // A book: word records, then block records.
 ghost use mathlib.Core.Path.{_≡_};
-ghost use mathlib.Core.List.{[]};
 ghost use Prim.Native.Nat.{_≤_};
-ghost use lib.ListN.{length, getD};
+ghost use lib.ListN.{length};
 ghost use Rattle.meaning.specs.Numbers.{mostWords, longestBook};
 ghost use Rattle.meaning.specs.Words.{Words as TextList, word as textOf};
 ghost use Rattle.records.specs.Run.{bookWords};

@@ -1,10 +1,8 @@
--- `automaton::borders::settle`: a child that has its border is passed; any other gets it, and stands last in the queue.
+-- `automaton::borders::settle`: a child that has its border is passed; any other gets border and link, and stands last in the queue.
 use mathlib.Core.Path.{sym, _∙_}
 use native.Mathlib.Omega.{arith}
 use borrow.Author.Needs.{needs}
-use Prim.Native.Nat.{_<_}
-use Rattle.meaning.specs.Numbers.{mostStates}
-use Rattle.automaton.proofs.Queue.{child-inside, child-row, child-byte, passes, border-small, room, settles}
+use Rattle.automaton.proofs.Queue.{bordered, child-inside, child-row, still-row, child-byte, passes, border-small, border-linked, link-small, room, settles}
 use Rattle.automaton.proofs.borders.settle.Statement.{statement}
 use Rattle.automaton.proofs.borders.settle.Tie as tie
 
@@ -23,33 +21,49 @@ letter-requires c κs = child-row (c .before .before .before .before .before .pr
 child-border-requires : tie.Need-child-border-requires
 child-border-requires c κs =
     let pre = c .before .before .before .before .before .before .pre in
-    ((pre .0, pre .1, pre .2 .taking .bordered), rw (c .letter .ensures .is) (child-byte (pre .2)))
+    ((pre .0, pre .1, bordered (pre .2 .taking)), rw (c .letter .ensures .is) (child-byte (pre .2)))
+
+first-word-requires : tie.Need-first-word-requires
+first-word-requires c κs =
+    let read = c .before .before in
+    let pre = read .before .before .before .before .before .before .pre in
+    (pre .0, pre .1, border-linked (pre .2) (read .letter .ensures .is) (c .before .child-border .ensures _ _ (bordered (pre .2 .taking))))
 
 set-border-requires : tie.Need-set-border-requires
 set-border-requires c κs =
-    let σ = c .before .before .before .before .before .before .before .before .pre .2 in
-    let small = border-small σ (c .before .before .letter .ensures .is) (c .before .child-border .ensures _ _ (σ .taking .bordered)) in
+    let found = c .before .before .before in
+    let σ = found .before .before .before .before .before .before .before .pre .2 in
+    let small = border-small σ (found .before .letter .ensures .is) (found .child-border .ensures _ _ (bordered (σ .taking))) in
     (child-row σ, omega arith)
 
--- where a state joins the queue, there is room
-fits : (c : tie.After-slice-known2) → c .before .before .before .before .before .before .before .before .before .before .before .args .tail < mostStates
-fits c =
-    let chosen = c .before .before .before .before .before .before .before in
-    let σ = chosen .before .before .before .before .pre .2 in
-    room σ (c .before .before .before .before .before .letter .ensures .is)
-    (c .before .before .before .before .child-border .ensures _ _ (σ .taking .bordered))
-    (sym (chosen .before .border .ensures .is) ∙ chosen .if1 .left)
+set-link-requires : tie.Need-set-link-requires
+set-link-requires c κs =
+    let linked = c .before .before .before .before .before in
+    let found = linked .before .before in
+    let σ = found .before .before .before .before .before .before .before .pre .2 in
+    let read = found .before .letter .ensures .is in
+    let is = found .child-border .ensures _ _ (bordered (σ .taking)) in
+    (rw (c .before .before .before .set-border .ensures) (still-row σ _), link-small σ read is (linked .first-word .ensures _ _ (border-linked σ read is)))
 
 cast-queue : tie.Need-cast-queue
 cast-queue c =
-    let σ = c .before .before .before .before .before .before .before .before .before .before .before .pre .2 in
+    let found = c .before .before .before .before .before .before .before .before .before .before in
+    let σ = found .before .before .before .before .before .before .before .pre .2 in
     omega (arith, child-inside σ, σ .taking .queued .tree .states .few)
 
 mul-queue : tie.Need-mul-queue
 mul-queue c = search needs
 
+-- where a state joins the queue, there is room
 element-write-queue : tie.Need-element-write-queue
-element-write-queue c = fits c
+element-write-queue c =
+    let linked = c .before .before .before .before .before .before .before .before in
+    let found = linked .before .before in
+    let chosen = found .before .before .before in
+    let σ = chosen .before .before .before .before .pre .2 in
+    let read = found .before .letter .ensures .is in
+    let is = found .child-border .ensures _ _ (bordered (σ .taking)) in
+    room σ read is (linked .first-word .ensures _ _ (border-linked σ read is)) (sym (chosen .before .border .ensures .is) ∙ chosen .if1 .left)
 
 add-result : tie.Need-add-result
 add-result c = search needs
@@ -59,11 +73,13 @@ same-length-2 c = search needs
 
 returns-2 : tie.Need-returns-2
 returns-2 c X S σ =
-    let chosen = c .before .before .before .before .before .before .before in
-    rw (c .before .before .set-border .ensures)
-    (settles σ (c .before .before .before .before .before .letter .ensures .is)
-    (c .before .before .before .before .child-border .ensures X S (σ .taking .bordered))
-    (sym (chosen .before .border .ensures .is) ∙ chosen .if1 .left))
+    let linked = c .before .before .before .before .before .before .before .before in
+    let found = linked .before .before in
+    let chosen = found .before .before .before in
+    let read = found .before .letter .ensures .is in
+    let is = found .child-border .ensures X S (bordered (σ .taking)) in
+    rw (c .before .before .set-link .ensures, c .before .before .before .before .before .before .set-border .ensures)
+    (settles σ read is (linked .first-word .ensures X S (border-linked σ read is)) (sym (chosen .before .border .ensures .is) ∙ chosen .if1 .left))
 
 pub settle-spec : {M : Type 1} → statement M
 settle-spec =
@@ -74,7 +90,9 @@ settle-spec =
     returns
     letter-requires
     child-border-requires
+    first-word-requires
     set-border-requires
+    set-link-requires
     cast-queue
     mul-queue
     element-write-queue

@@ -15,10 +15,10 @@ abbrev μ-loop : tie.MeasureT-loop
 μ-loop table₀ index queue₀ end p tail₀ c₀ table queue tail c = left table c
 
 first-child-requires : tie.Need-first-child-requires Inv-loop μ-loop
-first-child-requires c κs = let τ = c .before .before .pre .2 in state-row (τ .bordered .tree) (τ .bordered .inside)
+first-child-requires c κs = let τ = c .before .before .pre .2 in state-row (τ .queued .tree) (τ .inside)
 
 loop-holds : tie.Need-loop-holds Inv-loop μ-loop
-loop-holds c X S τ = fills τ (c .first-child .ensures .is ∙ τ .bordered .tree .children _ (τ .bordered .inside))
+loop-holds c X S τ = fills τ (c .first-child .ensures .is ∙ τ .queued .tree .children _ (τ .inside))
 
 settle-requires : tie.Need-settle-requires Inv-loop μ-loop
 settle-requires c κs =

@@ -1,23 +1,24 @@
--- `automaton::borders::fill_borders`: at the loop's head the states before `head` in the queue are taken out.
+-- `automaton::borders::complete_rows`: at the loop's head the states before `head` in the queue are taken out.
 use mathlib.Core.Path.{refl}
 use Prim.Native.Nat.{_-_, _<_}
 use native.Mathlib.Omega.{arith}
+use lib.ListN.{length}
 use Rattle.meaning.specs.Numbers.{mostStates}
 use Rattle.meaning.specs.Words.{Words}
-use Rattle.automaton.specs.Queue.{Unbordered}
+use Rattle.automaton.specs.Insertion.{Growing}
 use Rattle.automaton.proofs.Queue.{Going, begins, takes, goes, ends, queue-fits}
-use Rattle.automaton.proofs.borders.fill_borders.Statement.{statement}
-use Rattle.automaton.proofs.borders.fill_borders.Tie as tie
+use Rattle.automaton.proofs.borders.complete_rows.Statement.{statement}
+use Rattle.automaton.proofs.borders.complete_rows.Tie as tie
 
 abbrev Inv-loop : tie.InvT-loop
 Inv-loop table₀ index queue₀ head₀ tail₀ table queue head tail =
-    (X S : Words) → Unbordered X S table₀ index → Going X S table₀ table index queue head tail
+    (X S : Words) → Growing X S table₀ index (length S) → Going X S table₀ table index queue head tail
 
 abbrev μ-loop : tie.MeasureT-loop
 μ-loop table₀ index queue₀ head₀ tail₀ table queue head tail = mostStates - head
 
 loop-holds : tie.Need-loop-holds Inv-loop μ-loop
-loop-holds c X S υ = begins υ (omega arith) refl
+loop-holds c X S γ = begins γ (omega arith) refl
 
 -- in a turn the head is a place of the queue
 within : (c : tie.In-loop Inv-loop μ-loop) → c .before .loop .head < mostStates
@@ -45,9 +46,9 @@ loop-less : tie.Need-loop-less Inv-loop μ-loop
 loop-less c = omega (arith, within (c .before .before .before .before .before .before))
 
 loop-again : tie.Need-loop-again Inv-loop μ-loop
-loop-again c X S υ =
+loop-again c X S γ =
     let turn = c .before .before .before .before .before .before in
-    let φ = turn .before .loop .inv X S υ in
+    let φ = turn .before .loop .inv X S γ in
     let h = turn .loop-test .taken in
     let here = c .before .before .before .before .before .wide .ensures .0 in
     goes φ h here (c .before .before .take-out .ensures X S (takes φ h here))
@@ -56,10 +57,10 @@ same-length : tie.Need-same-length Inv-loop μ-loop
 same-length c = c .before .loop .inv _ _ (c .before .before .before .pre .2) .same .long
 
 returns : tie.Need-returns Inv-loop μ-loop
-returns c X S υ = ends (c .before .loop .inv X S υ) (c .loop-test .left)
+returns c X S γ = ends (c .before .loop .inv X S γ) (c .loop-test .left)
 
-pub fill-borders-spec : {M : Type 1} → statement M
-fill-borders-spec =
+pub complete-rows-spec : {M : Type 1} → statement M
+complete-rows-spec =
     tie.close
     (tie.spec
     Inv-loop
