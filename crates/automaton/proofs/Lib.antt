@@ -6,6 +6,7 @@ pub mod NewState
 pub mod Grow
 pub mod Inserting
 pub mod Queue
+pub mod Breadth
 pub mod Chain
 pub mod RootIndex
 pub mod Copied

@@ -61,7 +61,7 @@ fn take_out(
 
 // The borders and links of all states, each once: the queue begins with the root, and depths rise along it. At most 2,048 states
 // are taken out; for each the siblings below its own letter are passed at its border, and those borders are climbed that a text of
-// its word would climb. A link costs two reads.
+// its word would climb. A link costs at most two reads.
 pub fn complete_rows(table: &mut [u16], index: &[u16; 256])
     requires { ⌜ ((X S : Words) × Growing X S (now table) (now index) (length S)) ⌝ }
     ensures { λ _. ⌜ ((X S : Words) → Growing X S (now (table .entry)) (now (index .entry)) (length S) → Completed X S (now (table .entry)) (now (table .exit))) ⌝ }
