@@ -7,7 +7,7 @@ use native.Mathlib.Decide.{ℕ-discrete}
 use lib.ListN.{length, length-set}
 use Rattle.meaning.specs.Words.{Words, word}
 use Rattle.meaning.specs.Table.{width, letterField, childField, siblingField, depthField, wordField, borderField, linkField}
-use Rattle.automaton.specs.Layout.{fieldAt, setField}
+use Rattle.automaton.specs.Layout.{fieldAt, setField, HasRow}
 use Rattle.automaton.specs.Tree.{Tree, borderOf, linkOf}
 use Rattle.automaton.specs.Filling.{Known, SameTree, Grown}
 use Rattle.automaton.proofs.Cells.{set-here, set-other-field, set-other-row, set-past}
@@ -49,43 +49,48 @@ module _ {X S : Words} where
   pub grown-trans : {t₁ t₂ t₃ : List ℕ} → Grown X S t₁ t₂ → Grown X S t₂ t₃ → Grown X S t₁ t₃
   grown-trans p q = record { same = same-trans (p .same) (q .same); kept = λ s l k. q .kept s l (p .kept s l k) }
 
--- the border and the link of state c are written
-module _ {X S : Words} {t : List ℕ} (τ : Tree X S t) {c : ℕ} (inside : c < length S) (b l : ℕ) where
+-- the border of state c is written, ..
+module _ {X S : Words} {t : List ℕ} (τ : Tree X S t) {c : ℕ} (inside : c < length S) (b : ℕ) where
   abbrev half : List ℕ
   half = setField t c borderField b
-
-  abbrev both : List ℕ
-  both = setField half c linkField l
 
   first : SameTree (length S) t half
   first = same-set t b (omega arith) (omega arith) inside
 
-  pub border-set : fieldAt both c borderField ≡ b
-  border-set =
-      set-other-field half c linkField l c borderField (omega arith) (omega arith) (λ e. omega arith)
-      ∙ set-here t c borderField b (omega arith) (state-row τ inside)
+  pub still-row : HasRow half c
+  still-row = state-row (same-tree first τ) inside
 
-  link-set : fieldAt both c linkField ≡ l
-  link-set = set-here half c linkField l (omega arith) (state-row (same-tree first τ) inside)
+  -- .. and its link
+  module _ (l : ℕ) where
+    abbrev both : List ℕ
+    both = setField half c linkField l
 
-  pub other-set : (s j : ℕ) → j < width → (s ≡ c → ⊥) → fieldAt both s j ≡ fieldAt t s j
-  other-set s j h d =
-      set-other-row half c linkField l s j (omega arith) h d ∙ set-other-row t c borderField b s j (omega arith) h d
+    pub border-set : fieldAt both c borderField ≡ b
+    border-set =
+        set-other-field half c linkField l c borderField (omega arith) (omega arith) (λ e. omega arith)
+        ∙ set-here t c borderField b (omega arith) (state-row τ inside)
 
-  -- .. and right
-  module _ (border : b ≡ borderOf S (word S c)) (link : l ≡ linkOf X S (word S c)) where
-    pub known-set : Known X S both c
-    known-set = record { border = border-set ∙ border; link = link-set ∙ link }
+    link-set : fieldAt both c linkField ≡ l
+    link-set = set-here half c linkField l (omega arith) still-row
 
-    pub grown-set : Grown X S t both
-    grown-set = record {
-      same = same-trans first (same-set half l (omega arith) (omega arith) inside);
-      kept = λ s h k. go s k (ℕ-discrete s c);
-    }
-      where
-        go : (s : ℕ) → Known X S t s → Dec (s ≡ c) → Known X S both s
-        go s k (yes e) = rw e known-set
-        go s k (no d) = record {
-          border = other-set s borderField (omega arith) d ∙ k .border;
-          link = other-set s linkField (omega arith) d ∙ k .link;
-        }
+    pub other-set : (s j : ℕ) → j < width → (s ≡ c → ⊥) → fieldAt both s j ≡ fieldAt t s j
+    other-set s j h d =
+        set-other-row half c linkField l s j (omega arith) h d ∙ set-other-row t c borderField b s j (omega arith) h d
+
+    -- .. both right
+    module _ (border : b ≡ borderOf S (word S c)) (link : l ≡ linkOf X S (word S c)) where
+      pub known-set : Known X S both c
+      known-set = record { border = border-set ∙ border; link = link-set ∙ link }
+
+      pub grown-set : Grown X S t both
+      grown-set = record {
+        same = same-trans first (same-set half l (omega arith) (omega arith) inside);
+        kept = λ s h k. go s k (ℕ-discrete s c);
+      }
+        where
+          go : (s : ℕ) → Known X S t s → Dec (s ≡ c) → Known X S both s
+          go s k (yes e) = rw e known-set
+          go s k (no d) = record {
+            border = other-set s borderField (omega arith) d ∙ k .border;
+            link = other-set s linkField (omega arith) d ∙ k .link;
+          }

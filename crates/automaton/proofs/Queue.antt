@@ -3,7 +3,7 @@ use mathlib.Core.Path.{_≡_, refl, sym, ap, ap₂, _∙_, subst}
 use mathlib.Core.Logic.{_⊎_, inl, inr}
 use mathlib.Core.Option.{some}
 use mathlib.Core.List.{List}
-use Prim.Native.Nat.{ℕ, zero, suc, _+_, _*_, _-_, _≤_, _<_}
+use Prim.Native.Nat.{ℕ, zero, suc, _+_, _-_, _≤_, _<_}
 use native.Mathlib.Decide.{decLt, ℕ-discrete}
 use native.Mathlib.Nat.{lt-of-not-le}
 use native.Mathlib.Omega.{arith}
@@ -14,7 +14,7 @@ use borrow.Author.Tests.{ne-eqb}
 use Rattle.meaning.specs.Numbers.{letterValues, mostStates, absent}
 use Rattle.meaning.specs.Words.{if_then_else_, Word, Words, snoc, find, word}
 use Rattle.meaning.specs.Automaton.{nearest, border, link}
-use Rattle.meaning.specs.Table.{stored, childFrom, lastLetter, width, letterField, siblingField, borderField, linkField}
+use Rattle.meaning.specs.Table.{stored, childFrom, lastLetter, letterField, siblingField, borderField, linkField}
 use Rattle.meaning.proofs.Lists.{snoc-length}
 use Rattle.meaning.proofs.Find.{none-or-some, some-inj, find-some}
 use Rattle.meaning.proofs.Children.{lastLetter-snoc}
@@ -78,9 +78,6 @@ module _ {X S : Words} {t index q : List ℕ} {tail p c : ℕ} (σ : Settling X 
   pub child-row : HasRow t c
   child-row = state-row (σ .taking .queued .tree) child-inside
 
-  pub still-row : (b : ℕ) → HasRow (setField t c borderField b) c
-  still-row b = rw (length-set t (width * c + borderField) b) child-row
-
   pub child-letter : fieldAt t c letterField ≡ σ .letter
   child-letter =
       σ .taking .queued .tree .letters c child-inside
@@ -118,11 +115,13 @@ module _ {X S : Words} {t index q : List ℕ} {tail p c : ℕ} (σ : Settling X 
       link-is : l ≡ linkOf X S (word S c)
       link-is = nearest-is ∙ ap stored (sym (link-of-border X S (σ .taking .queued .tree .words .within) (word S c) b border-is))
 
-      pub link-small : l ≤ absent
-      link-small =
-          stored-small (link X S (word S c))
-          (λ m e. omega (arith, state-small (σ .taking .queued .tree) (proper-inside S X (word S c) m e)))
-          link-is
+      pub both-small : (b ≤ absent) × (l ≤ absent)
+      both-small = (
+        omega (arith, border-small),
+        stored-small (link X S (word S c))
+            (λ m e. omega (arith, state-small (σ .taking .queued .tree) (proper-inside S X (word S c) m e)))
+            link-is,
+      )
 
       abbrev t′ : List ℕ
       t′ = setField (setField t c borderField b) c linkField l

@@ -26,6 +26,9 @@ module _ {X S : Words} {t : List ℕ} where
   whole-field ω s (suc (suc (suc (suc (suc (suc zero)))))) l h = ω .links s l
   whole-field ω s (suc (suc (suc (suc (suc (suc (suc j))))))) l h = absurd (omega arith)
 
+  pub whole-linked : Whole X S t → {s : ℕ} → s < length S → LinkedAt X S t s
+  whole-linked ω {s} l = record { tree = ω .tree; inside = l; link = ω .links s l }
+
   pub whole-rows : Whole X S t → take (width * length S) t ≡ rows X S S
   whole-rows ω = rows-take X S t (ω .tree .room) (whole-field ω)
 
@@ -69,4 +72,4 @@ module _ {X : Words} {t : List ℕ} (ι : IsTable X t) where
   }
 
   pub table-linked : {s : ℕ} → s < length (states X) → LinkedAt X (states X) t s
-  table-linked {s} l = record { tree = table-whole .tree; inside = l; link = table-whole .links s l }
+  table-linked l = whole-linked table-whole l

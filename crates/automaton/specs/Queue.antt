@@ -13,7 +13,7 @@ use Rattle.automaton.specs.Layout.{fieldAt}
 use Rattle.automaton.specs.Tree.{Tree, Indexed}
 use Rattle.automaton.specs.Filling.{Known, Grown}
 
--- state s has its border, and with it its link
+-- state s has its border; its link is written with it
 abbrev pub Settled : List ℕ → ℕ → Type 0
 Settled t s = fieldAt t s borderField ≡ absent → ⊥
 

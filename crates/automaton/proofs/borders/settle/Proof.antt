@@ -2,7 +2,8 @@
 use mathlib.Core.Path.{sym, _∙_}
 use native.Mathlib.Omega.{arith}
 use borrow.Author.Needs.{needs}
-use Rattle.automaton.proofs.Queue.{bordered, child-inside, child-row, still-row, child-byte, passes, border-small, border-linked, link-small, room, settles}
+use Rattle.automaton.proofs.Queue.{bordered, child-inside, child-row, child-byte, passes, border-small, border-linked, both-small, room, settles}
+use Rattle.automaton.proofs.Known.{still-row}
 use Rattle.automaton.proofs.borders.settle.Statement.{statement}
 use Rattle.automaton.proofs.borders.settle.Tie as tie
 
@@ -43,7 +44,8 @@ set-link-requires c κs =
     let σ = found .before .before .before .before .before .before .before .pre .2 in
     let read = found .before .letter .ensures .is in
     let is = found .child-border .ensures _ _ (bordered (σ .taking)) in
-    (rw (c .before .before .before .set-border .ensures) (still-row σ _), link-small σ read is (linked .first-word .ensures _ _ (border-linked σ read is)))
+    let (border, link) = both-small σ read is (linked .first-word .ensures _ _ (border-linked σ read is)) in
+    (rw (c .before .before .before .set-border .ensures) (still-row (σ .taking .queued .tree) (child-inside σ) _), omega arith)
 
 cast-queue : tie.Need-cast-queue
 cast-queue c =

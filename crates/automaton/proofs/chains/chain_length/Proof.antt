@@ -1,12 +1,11 @@
 -- `automaton::chains::chain_length`: at the loop's head k words are counted, and those from v on are left.
-use mathlib.Core.List.{List}
-use Prim.Native.Nat.{ℕ, _<_}
+use Prim.Native.Nat.{_<_}
 use native.Mathlib.Omega.{arith}
 use lib.ListN.{length}
 use Rattle.meaning.specs.Words.{Words, word}
 use Rattle.automaton.specs.Tree.{Whole}
-use Rattle.automaton.specs.Filling.{LinkedAt}
 use Rattle.automaton.proofs.Walk.{state-row}
+use Rattle.automaton.proofs.Whole.{whole-linked}
 use Rattle.automaton.proofs.Chain.{Counting, lettersLeft, next, count-start, count-on, count-end, count-small}
 use Rattle.automaton.proofs.chains.chain_length.Statement.{statement}
 use Rattle.automaton.proofs.chains.chain_length.Tie as tie
@@ -17,14 +16,11 @@ Inv-loop table s k₀ v₀ k v = (X S : Words) → Whole X S table → s < lengt
 abbrev μ-loop : tie.MeasureT-loop
 μ-loop table s k₀ v₀ k v = lettersLeft table v
 
-linked : {X S : Words} {t : List ℕ} {s : ℕ} → Whole X S t → s < length S → LinkedAt X S t s
-linked {s = s} ω l = record { tree = ω .tree; inside = l; link = ω .links s l }
-
 first-word-requires : tie.Need-first-word-requires Inv-loop μ-loop
-first-word-requires c κs = let (X, S, ω, l) = c .before .pre in (X, S, linked ω l)
+first-word-requires c κs = let (X, S, ω, l) = c .before .pre in (X, S, whole-linked ω l)
 
 loop-holds : tie.Need-loop-holds Inv-loop μ-loop
-loop-holds c X S ω l = count-start (ω .tree) (c .first-word .ensures X S (linked ω l))
+loop-holds c X S ω l = count-start (ω .tree) (c .first-word .ensures X S (whole-linked ω l))
 
 add-k : tie.Need-add-k Inv-loop μ-loop
 add-k c =
