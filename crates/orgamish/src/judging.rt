@@ -8,6 +8,7 @@ use automaton::Judged;
 use automaton::judge_table;
 use columns::are_columns;
 use records::Dictionary;
+use records::LONGEST_TEXT;
 use records::check_dictionary;
 
 // Nothing is refused so far; or a refusal.
@@ -15,8 +16,6 @@ pub enum Verdict {
     Passed,
     Refused { number: u16, place: u16 },
 }
-
-pub const LONGEST_TEXT: usize = 4096;
 
 // The dictionary, 7, 8.
 pub fn judge_rows(map: &[u8], dict: &[u8], table: &[u16]) -> Verdict
