@@ -15,7 +15,7 @@ use Rattle.meaning.proofs.Lists.{Snoc, nothing, last, snoc-view, snoc-length}
 use Rattle.meaning.proofs.Find.{find-some}
 use Rattle.meaning.proofs.States.{Bounded, trie-front}
 use Rattle.automaton.specs.Layout.{fieldAt}
-use Rattle.automaton.specs.Tree.{borderOf, linkOf}
+use Rattle.automaton.specs.Tree.{borderOf, linkOf, chainOf}
 use Rattle.automaton.specs.Insertion.{Growing}
 use Rattle.automaton.specs.Filling.{Known, SameTree, Completed}
 use Rattle.automaton.specs.Queue.{Settled, unsettled, depthIn, Queued, Taking, Taken}
@@ -97,10 +97,15 @@ module _ {X S : Words} {t₀ t index q : List ℕ} {head tail : ℕ} (φ : Going
           go (yes k) = k
           go (no k) = absurd (omega (arith, φ .queued .rising head i (omega arith) l))
 
-  -- .. and at the end every state has its border and its link
+  -- .. and at the end every state is filled in
   pub ends : tail ≤ head → Completed X S t₀ t
   ends h = record {
-    whole = record { tree = φ .queued .tree; borders = λ s l. all s l .border; links = λ s l. all s l .link };
+    whole = record {
+      tree = φ .queued .tree;
+      borders = λ s l. all s l .border;
+      links = λ s l. all s l .link;
+      chains = λ s l. all s l .chain;
+    };
     past = φ .same .past;
   }
     where
@@ -150,6 +155,7 @@ begins {X} {S} {t} {index} {q} γ long e = record {
     root = record {
       border = γ .blank .borders 0 inside ∙ sym (ap (borderOf S) (root-word (γ .tree .states)));
       link = γ .blank .links 0 inside ∙ sym (ap (linkOf X S) (root-word (γ .tree .states)));
+      chain = γ .blank .chains 0 inside ∙ sym (ap (chainOf X) (root-word (γ .tree .states)));
     };
     known = λ s l h. absurd (h (γ .blank .borders s l));
     entries = λ i l. subst (λ (s : ℕ). s < length S) (sym (first i l)) inside;

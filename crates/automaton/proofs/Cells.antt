@@ -48,13 +48,13 @@ module _ (t : List ℕ) (n : ℕ) (vs : List ℕ) (full : length vs ≡ width) (
   pub row-past : (i : ℕ) → width * suc n ≤ i → getD (sets t (width * n) vs) i 0 ≡ getD t i 0
   row-past i l = sets-past vs t (width * n) i (omega arith)
 
--- seven stores make a row
+-- eight stores make a row
 stores-row : (t : List ℕ) (n a next d : ℕ)
-    → setField (setField (setField (setField (setField (setField (setField t n 0 a) n 1 absent) n 2 next) n 3 d) n 4 absent) n 5 absent) n 6 absent
+    → setField (setField (setField (setField (setField (setField (setField (setField t n 0 a) n 1 absent) n 2 next) n 3 d) n 4 absent) n 5 absent) n 6 absent) n 7 0
     ≡ sets t (width * n) (newRow a next d)
 stores-row t n a next d = simp (add-zero, towards-suc)
 
-pub row-written : (t : List ℕ) (n a next d : ℕ) {t₁ t₂ t₃ t₄ t₅ t₆ t₇ : List ℕ} → t₁ ≡ setField t n 0 a → t₂ ≡ setField t₁ n 1 absent
+pub row-written : (t : List ℕ) (n a next d : ℕ) {t₁ t₂ t₃ t₄ t₅ t₆ t₇ t₈ : List ℕ} → t₁ ≡ setField t n 0 a → t₂ ≡ setField t₁ n 1 absent
     → t₃ ≡ setField t₂ n 2 next → t₄ ≡ setField t₃ n 3 d → t₅ ≡ setField t₄ n 4 absent → t₆ ≡ setField t₅ n 5 absent
-    → t₇ ≡ setField t₆ n 6 absent → t₇ ≡ sets t (width * n) (newRow a next d)
-row-written t n a next d e₁ e₂ e₃ e₄ e₅ e₆ e₇ = cc (stores-row t n a next d)
+    → t₇ ≡ setField t₆ n 6 absent → t₈ ≡ setField t₇ n 7 0 → t₈ ≡ sets t (width * n) (newRow a next d)
+row-written t n a next d e₁ e₂ e₃ e₄ e₅ e₆ e₇ e₈ = cc (stores-row t n a next d)

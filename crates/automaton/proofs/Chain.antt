@@ -1,7 +1,7 @@
 -- The walk along a chain, from a state that is a word to its link. In the end it stands at 65,535: that is no state, so its string
 -- is the empty word, whose chain is empty, and no law needs a case for it.
 use mathlib.Core.Path.{_≡_, refl, sym, ap, _∙_}
-use mathlib.Core.Option.{none, some}
+use mathlib.Core.Option.{Option, none, some}
 use mathlib.Core.List.{List, [], _∷_}
 use Prim.Native.Nat.{ℕ, _+_, _≤_, _<_, max}
 use native.Mathlib.Numerals.{add-one}
@@ -11,18 +11,19 @@ use lib.Dec.{eqb}
 use lib.ListN.{length, drop, List·getD-eq-default, drop-of-length-le}
 use lib.Seq.{drop-cons}
 use borrow.Author.Tests.{eq-eqb, ne-eqb}
-use Rattle.meaning.specs.Numbers.{longestWord, absent}
+use Rattle.meaning.specs.Numbers.{absent}
 use Rattle.meaning.specs.Words.{if_then_else_, Word, Words, find, word, size}
-use Rattle.meaning.specs.Automaton.{nearest, chain, longestOf}
-use Rattle.meaning.specs.Table.{stored, depthField, wordField, linkField}
+use Rattle.meaning.specs.Automaton.{nearest, consFound, chain, longestOf}
+use Rattle.meaning.specs.Table.{stored, depthField, wordField, linkField, chainField}
 use Rattle.meaning.proofs.Find.{Asked, got, lacks, ask, none-or-some, find-some}
 use Rattle.meaning.proofs.States.{within-self}
-use Rattle.meaning.proofs.Suffixes.{suffix-length, nearest-here, nearest-some, nearest-inside}
-use Rattle.meaning.proofs.Chains.{chain-here, chain-none, chain-nearest, chain-length, word-past}
+use Rattle.meaning.proofs.Suffixes.{suffix-length, nearest-here, nearest-some, nearest-inside, proper-inside}
+use Rattle.meaning.proofs.Chains.{chain-here, chain-none, chain-nearest, chain-border, word-past}
 use Rattle.meaning.proofs.Rows.{stored-none, stored-some}
-use Rattle.automaton.specs.Layout.{fieldAt}
+use Rattle.automaton.specs.Layout.{fieldAt, HasRow}
 use Rattle.automaton.specs.Tree.{Column, Tree, linkOf}
-use Rattle.automaton.specs.Filling.{LinkedAt}
+use Rattle.automaton.specs.Filling.{LinkedAt, CountedAt}
+use Rattle.automaton.proofs.Walk.{state-row}
 
 -- state v is a word
 pub record AtWord (X S : Words) (v : ℕ) : Type 0 where
@@ -127,24 +128,24 @@ module _ {X S : Words} {t : List ℕ} {s k : ℕ} (h : LinkedAt X S t s) (e : k 
   pub first-link : k ≡ absent → {r : ℕ} → r ≡ fieldAt t s linkField → r ≡ stored (nearest S X (word S s))
   first-link f i = i ∙ h .link ∙ sym (ap stored (word-past X S _ (no-word (h .tree) (h .inside) e f)))
 
--- k words are counted, and those from v on are left
-pub record Counting (X S : Words) (u : Word) (k v : ℕ) : Type 0 where
-  pub on : OnChain X S v
-  pub total : k + length (chain X (word S v)) ≡ length (chain X u)
+-- the border of a state has a row
+pub counted-row : {X S : Words} {t : List ℕ} {c b : ℕ} → CountedAt X S t c b → HasRow t b
+counted-row {S = S} {c = c} {b = b} h = state-row (h .tree) (proper-inside S S (word S c) b (h .border))
 
-module _ {X S : Words} {t : List ℕ} (τ : Tree X S t) {u : Word} where
-  pub count-start : {v : ℕ} → v ≡ stored (nearest S X u) → Counting X S u 0 v
-  count-start e = let b = begins τ u e in record { on = b .on; total = omega (arith, ap length (b .same)) }
+-- the words that end at c are those that end at its border b, and c where that is a word
+module _ {X S : Words} {t : List ℕ} {c b n k : ℕ} (h : CountedAt X S t c b) (e : n ≡ fieldAt t c wordField) (f : k ≡ fieldAt t b chainField)
+  where
+    counted : {o : Option ℕ} → find X (word S c) ≡ o → length (chain X (word S c)) ≡ length (consFound o (chain X (word S b)))
+    counted i =
+        ap length
+        (chain-border X S (h .tree .words .within) (word S c) b (h .border)
+        ∙ ap (λ (o : Option ℕ). consFound o (chain X (word S b))) i)
 
-  module _ {k v : ℕ} (φ : Counting X S u k v) where
-    pub count-end : v ≡ absent → k ≡ length (chain X u)
-    count-end e = omega (arith, φ .total, ap length (chain-end τ e))
+    pub counts-itself : (n ≡ absent → ⊥) → k + 1 ≡ length (chain X (word S c))
+    counts-itself g = omega (arith, counted (is-word (h .tree) (h .inside) e g), f, h .chain)
 
-    pub count-on : (f : v ≡ absent → ⊥) {l : ℕ} → Next X S t v (φ .on .here f .number) l → Counting X S u (k + 1) l
-    count-on f n = record { on = n .on; total = omega (arith, φ .total, ap length (n .is)) }
-
-    pub count-small : {s : ℕ} → find S u ≡ some s → k ≤ longestWord
-    count-small e = omega (arith, φ .total, chain-length X u, τ .states .short u _ e)
+    pub counts-border : n ≡ absent → k ≡ length (chain X (word S c))
+    counts-border g = omega (arith, counted (no-word (h .tree) (h .inside) e g), f, h .chain)
 
 -- the longest chain of all is r, that of the states below s, or that of a state from s on
 pub record LongestTo (X S : Words) (r s : ℕ) : Type 0 where

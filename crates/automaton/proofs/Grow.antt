@@ -13,7 +13,7 @@ use lib.Seq.{sets, length-sets, getD-set-same, getD-set-other}
 use Rattle.meaning.specs.Numbers.{mostStates, absent}
 use Rattle.meaning.specs.Words.{Word, Words, snoc, find, word}
 use Rattle.meaning.specs.Automaton.{add}
-use Rattle.meaning.specs.Table.{stored, firstChild, lastLetter, nextSibling, childFrom, width, letterField, childField, siblingField, depthField, wordField, borderField, linkField}
+use Rattle.meaning.specs.Table.{stored, firstChild, lastLetter, nextSibling, childFrom, width, letterField, childField, siblingField, depthField, wordField, borderField, linkField, chainField}
 use Rattle.meaning.proofs.Lists.{snoc-inj, snoc-length}
 use Rattle.meaning.proofs.Find.{find-some, find-new, find-other}
 use Rattle.meaning.proofs.States.{Bounded, WordsIn, Placed, before, atEnd, placed, add-old, add-new, add-bounded, add-words}
@@ -164,6 +164,7 @@ module _ {X S : Words} {t index : List ℕ} {n p a d : ℕ} (ω : Open X S t ind
       grow-blank = record {
         borders = with-kept borderField (λ v. absent) (omega arith) (ω .growing .blank .borders) refl;
         links = with-kept linkField (λ v. absent) (omega arith) (ω .growing .blank .links) refl;
+        chains = with-kept chainField (λ v. 0) (omega arith) (ω .growing .blank .chains) refl;
       }
 
     module _ {next : ℕ} where

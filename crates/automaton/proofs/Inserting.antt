@@ -12,7 +12,7 @@ use lib.Seq.{take-suc, take-all}
 use Rattle.meaning.specs.Numbers.{mostWords, absent}
 use Rattle.meaning.specs.Words.{Word, Words, snoc, find, word}
 use Rattle.meaning.specs.Automaton.{prefixes, add, addAll}
-use Rattle.meaning.specs.Table.{stored, lastLetter, firstChild, nextSibling, width, letterField, childField, siblingField, depthField, wordField, borderField, linkField}
+use Rattle.meaning.specs.Table.{stored, lastLetter, firstChild, nextSibling, width, letterField, childField, siblingField, depthField, wordField, borderField, linkField, chainField}
 use Rattle.meaning.proofs.Lists.{snoc-length}
 use Rattle.meaning.proofs.Find.{none-or-some, FirstAt, find-some, find-new, find-other}
 use Rattle.meaning.proofs.States.{extends-length, add-extends, addAll-append, addAll-extends, prefixes-snoc, prefixes-append}
@@ -88,6 +88,7 @@ module _ {X S : Words} {t index : List ℕ} {n : ℕ} (γ : Growing X S t index 
     blank = record {
       borders = kept borderField (λ u. absent) (omega arith) (γ .blank .borders);
       links = kept linkField (λ u. absent) (omega arith) (γ .blank .links);
+      chains = kept chainField (λ u. 0) (omega arith) (γ .blank .chains);
     };
     indexed = γ .indexed;
     count = γ .count;

@@ -1,14 +1,14 @@
--- Writing the border and the link of a state: the tree stays, and what was right stays right.
+-- Writing the border, the link and the chain's length of a state: the tree stays, and what was right stays right.
 use mathlib.Core.Path.{_≡_, refl, _∙_}
 use mathlib.Core.List.{List}
-use Prim.Native.Nat.{ℕ, _≤_, _<_}
+use Prim.Native.Nat.{ℕ, _+_, _*_, _≤_, _<_}
 use native.Mathlib.Omega.{arith}
 use native.Mathlib.Decide.{ℕ-discrete}
 use lib.ListN.{length, length-set}
 use Rattle.meaning.specs.Words.{Words, word}
-use Rattle.meaning.specs.Table.{width, letterField, childField, siblingField, depthField, wordField, borderField, linkField}
+use Rattle.meaning.specs.Table.{width, letterField, childField, siblingField, depthField, wordField, borderField, linkField, chainField}
 use Rattle.automaton.specs.Layout.{fieldAt, setField, HasRow}
-use Rattle.automaton.specs.Tree.{Tree, borderOf, linkOf}
+use Rattle.automaton.specs.Tree.{Tree, borderOf, linkOf, chainOf}
 use Rattle.automaton.specs.Filling.{Known, SameTree, Grown}
 use Rattle.automaton.proofs.Cells.{set-here, set-other-field, set-other-row, set-past}
 use Rattle.automaton.proofs.Walk.{state-row}
@@ -49,48 +49,60 @@ module _ {X S : Words} where
   pub grown-trans : {t₁ t₂ t₃ : List ℕ} → Grown X S t₁ t₂ → Grown X S t₂ t₃ → Grown X S t₁ t₃
   grown-trans p q = record { same = same-trans (p .same) (q .same); kept = λ s l k. q .kept s l (p .kept s l k) }
 
--- the border of state c is written, ..
-module _ {X S : Words} {t : List ℕ} (τ : Tree X S t) {c : ℕ} (inside : c < length S) (b : ℕ) where
-  abbrev half : List ℕ
-  half = setField t c borderField b
+pub row-stays : (t : List ℕ) (s j v c : ℕ) → HasRow t c → HasRow (setField t s j v) c
+row-stays t s j v c h = omega (arith, length-set t (width * s + j) v)
 
-  first : SameTree (length S) t half
-  first = same-set t b (omega arith) (omega arith) inside
+-- the border, the link and the chain's length of state c are written
+module _ {X S : Words} {t : List ℕ} (τ : Tree X S t) {c : ℕ} (inside : c < length S) (b l k : ℕ) where
+  abbrev one : List ℕ
+  one = setField t c borderField b
 
-  pub still-row : HasRow half c
-  still-row = state-row (same-tree first τ) inside
+  abbrev two : List ℕ
+  two = setField one c linkField l
 
-  -- .. and its link
-  module _ (l : ℕ) where
-    abbrev both : List ℕ
-    both = setField half c linkField l
+  abbrev three : List ℕ
+  three = setField two c chainField k
 
-    pub border-set : fieldAt both c borderField ≡ b
-    border-set =
-        set-other-field half c linkField l c borderField (omega arith) (omega arith) (λ e. omega arith)
-        ∙ set-here t c borderField b (omega arith) (state-row τ inside)
+  here : HasRow t c
+  here = state-row τ inside
 
-    link-set : fieldAt both c linkField ≡ l
-    link-set = set-here half c linkField l (omega arith) still-row
+  pub border-set : fieldAt three c borderField ≡ b
+  border-set =
+      set-other-field two c chainField k c borderField (omega arith) (omega arith) (λ e. omega arith)
+      ∙ set-other-field one c linkField l c borderField (omega arith) (omega arith) (λ e. omega arith)
+      ∙ set-here t c borderField b (omega arith) here
 
-    pub other-set : (s j : ℕ) → j < width → (s ≡ c → ⊥) → fieldAt both s j ≡ fieldAt t s j
-    other-set s j h d =
-        set-other-row half c linkField l s j (omega arith) h d ∙ set-other-row t c borderField b s j (omega arith) h d
+  link-set : fieldAt three c linkField ≡ l
+  link-set =
+      set-other-field two c chainField k c linkField (omega arith) (omega arith) (λ e. omega arith)
+      ∙ set-here one c linkField l (omega arith) (row-stays t c borderField b c here)
 
-    -- .. both right
-    module _ (border : b ≡ borderOf S (word S c)) (link : l ≡ linkOf X S (word S c)) where
-      pub known-set : Known X S both c
-      known-set = record { border = border-set ∙ border; link = link-set ∙ link }
+  chain-set : fieldAt three c chainField ≡ k
+  chain-set = set-here two c chainField k (omega arith) (row-stays one c linkField l c (row-stays t c borderField b c here))
 
-      pub grown-set : Grown X S t both
-      grown-set = record {
-        same = same-trans first (same-set half l (omega arith) (omega arith) inside);
-        kept = λ s h k. go s k (ℕ-discrete s c);
-      }
-        where
-          go : (s : ℕ) → Known X S t s → Dec (s ≡ c) → Known X S both s
-          go s k (yes e) = rw e known-set
-          go s k (no d) = record {
-            border = other-set s borderField (omega arith) d ∙ k .border;
-            link = other-set s linkField (omega arith) d ∙ k .link;
-          }
+  pub other-set : (s j : ℕ) → j < width → (s ≡ c → ⊥) → fieldAt three s j ≡ fieldAt t s j
+  other-set s j h d =
+      set-other-row two c chainField k s j (omega arith) h d
+      ∙ set-other-row one c linkField l s j (omega arith) h d
+      ∙ set-other-row t c borderField b s j (omega arith) h d
+
+  -- .. all right
+  module _ (border : b ≡ borderOf S (word S c)) (link : l ≡ linkOf X S (word S c)) (chain : k ≡ chainOf X (word S c)) where
+    pub known-set : Known X S three c
+    known-set = record { border = border-set ∙ border; link = link-set ∙ link; chain = chain-set ∙ chain }
+
+    pub grown-set : Grown X S t three
+    grown-set = record {
+      same =
+          same-trans (same-set t b (omega arith) (omega arith) inside)
+          (same-trans (same-set one l (omega arith) (omega arith) inside) (same-set two k (omega arith) (omega arith) inside));
+      kept = λ s h κ. go s κ (ℕ-discrete s c);
+    }
+      where
+        go : (s : ℕ) → Known X S t s → Dec (s ≡ c) → Known X S three s
+        go s κ (yes e) = rw e known-set
+        go s κ (no d) = record {
+          border = other-set s borderField (omega arith) d ∙ κ .border;
+          link = other-set s linkField (omega arith) d ∙ κ .link;
+          chain = other-set s chainField (omega arith) d ∙ κ .chain;
+        }

@@ -56,7 +56,11 @@ rooted t {t′} {index} room e empty = record {
     depths = column 3 length (omega arith) refl;
     numbers = column 4 (λ u. stored (find [] u)) (omega arith) refl;
   };
-  blank = record { borders = column 5 (λ u. absent) (omega arith) refl; links = column 6 (λ u. absent) (omega arith) refl };
+  blank = record {
+    borders = column 5 (λ u. absent) (omega arith) refl;
+    links = column 6 (λ u. absent) (omega arith) refl;
+    chains = column 7 (λ u. 0) (omega arith) refl;
+  };
   indexed = λ a l. empty a l;
   count = refl;
 }

@@ -1,4 +1,4 @@
--- The queue of states: how it grows by the children of a state, which get their borders and links.
+-- The queue of states: how it grows by the children of a state, which get their borders, links and chains.
 use mathlib.Core.Path.{_≡_, refl, sym, ap, ap₂, _∙_, subst}
 use mathlib.Core.Logic.{_⊎_, inl, inr}
 use mathlib.Core.Option.{some}
@@ -14,16 +14,16 @@ use borrow.Author.Tests.{ne-eqb}
 use Rattle.meaning.specs.Numbers.{letterValues, mostStates, absent}
 use Rattle.meaning.specs.Words.{if_then_else_, Word, Words, snoc, find, word}
 use Rattle.meaning.specs.Automaton.{nearest, border, link}
-use Rattle.meaning.specs.Table.{stored, childFrom, lastLetter, letterField, siblingField, borderField, linkField}
+use Rattle.meaning.specs.Table.{stored, childFrom, lastLetter, letterField, siblingField, borderField, linkField, chainField}
 use Rattle.meaning.proofs.Lists.{snoc-length}
 use Rattle.meaning.proofs.Find.{none-or-some, some-inj, find-some}
 use Rattle.meaning.proofs.Children.{lastLetter-snoc}
 use Rattle.meaning.proofs.Suffixes.{proper-inside, proper-shorter}
-use Rattle.meaning.proofs.Chains.{link-of-border}
+use Rattle.meaning.proofs.Chains.{chain-length, link-of-border}
 use Rattle.meaning.proofs.Rows.{stored-small}
 use Rattle.automaton.specs.Layout.{fieldAt, setField, HasRow}
-use Rattle.automaton.specs.Tree.{linkOf}
-use Rattle.automaton.specs.Filling.{Bordered, LinkedAt, Known, Grown}
+use Rattle.automaton.specs.Tree.{linkOf, chainOf}
+use Rattle.automaton.specs.Filling.{Bordered, LinkedAt, CountedAt, Known, Grown}
 use Rattle.automaton.specs.Queue.{Settled, unsettled, depthIn, Taking, Settling, Longer, Settles, Taken}
 use Rattle.automaton.proofs.Walk.{Child, state-row, state-small, more, no-more, left, left-same, left-less}
 use Rattle.automaton.proofs.Known.{same-tree, grown-refl, grown-trans, border-set, other-set, known-set, grown-set}
@@ -102,41 +102,52 @@ module _ {X S : Words} {t index q : List ℕ} {tail p c : ℕ} (σ : Settling X 
     pub border-small : b < mostStates
     border-small = state-small (σ .taking .queued .tree) border-inside
 
-    -- .. no longer than p, so that its link is right, ..
+    -- .. no longer than p, so that its link and its chain's length are right, ..
+    border-known : Known X S t b
+    border-known = σ .taking .known b border-inside (omega (arith, child-deeper, proper-shorter S S (word S c) b border-is))
+
     pub border-linked : LinkedAt X S t b
-    border-linked = record {
+    border-linked = record { tree = σ .taking .queued .tree; inside = border-inside; link = border-known .link }
+
+    pub border-counted : CountedAt X S t c b
+    border-counted = record {
       tree = σ .taking .queued .tree;
-      inside = border-inside;
-      link = σ .taking .known b border-inside (omega (arith, child-deeper, proper-shorter S S (word S c) b border-is)) .link;
+      inside = child-inside;
+      border = border-is;
+      chain = border-known .chain;
     }
 
-    -- .. and the nearest word there is l
-    module _ {l : ℕ} (nearest-is : l ≡ stored (nearest S X (word S b))) where
+    -- .. and the nearest word there is l, and k words end at c
+    module _ {l k : ℕ} (nearest-is : l ≡ stored (nearest S X (word S b))) (chain-is : k ≡ chainOf X (word S c)) where
       link-is : l ≡ linkOf X S (word S c)
       link-is = nearest-is ∙ ap stored (sym (link-of-border X S (σ .taking .queued .tree .words .within) (word S c) b border-is))
 
-      pub both-small : (b ≤ absent) × (l ≤ absent)
-      both-small = (
+      pub all-small : (b ≤ absent) × (l ≤ absent) × (k ≤ absent)
+      all-small = (
         omega (arith, border-small),
         stored-small (link X S (word S c))
             (λ m e. omega (arith, state-small (σ .taking .queued .tree) (proper-inside S X (word S c) m e)))
             link-is,
+        omega (arith, chain-is, chain-length X (word S c), σ .taking .queued .tree .states .short (word S c) c once),
       )
+        where
+          once : find S (word S c) ≡ some c
+          once = σ .taking .queued .tree .states .trie .once c child-inside
 
       abbrev t′ : List ℕ
-      t′ = setField (setField t c borderField b) c linkField l
+      t′ = setField (setField (setField t c borderField b) c linkField l) c chainField k
 
       other : (s : ℕ) → (s ≡ c → ⊥) → fieldAt t′ s borderField ≡ fieldAt t s borderField
-      other s d = other-set (σ .taking .queued .tree) child-inside b l s borderField (omega arith) d
+      other s d = other-set (σ .taking .queued .tree) child-inside b l k s borderField (omega arith) d
 
       settled : Settled t′ c
-      settled e = omega (arith, border-set (σ .taking .queued .tree) child-inside b l, border-small)
+      settled e = omega (arith, border-set (σ .taking .queued .tree) child-inside b l k, border-small)
 
       known-here : Known X S t′ c
-      known-here = known-set (σ .taking .queued .tree) child-inside b l (sym (ap stored border-is)) link-is
+      known-here = known-set (σ .taking .queued .tree) child-inside b l k (sym (ap stored border-is)) link-is chain-is
 
       grown : Grown X S t t′
-      grown = grown-set (σ .taking .queued .tree) child-inside b l (sym (ap stored border-is)) link-is
+      grown = grown-set (σ .taking .queued .tree) child-inside b l k (sym (ap stored border-is)) link-is chain-is
 
       kept : (s : ℕ) → Settled t s → Settled t′ s
       kept s h e = go (ℕ-discrete s c)

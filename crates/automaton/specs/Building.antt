@@ -6,9 +6,12 @@ use lib.ListN.{length, getD}
 use Rattle.meaning.specs.Numbers.{letterValues, mostStates, absent}
 use Rattle.meaning.specs.Words.{Words}
 use Rattle.meaning.specs.Automaton.{states, longestChain}
-use Rattle.meaning.specs.Table.{width, table, over}
+use Rattle.meaning.specs.Table.{width, over}
 use Rattle.meaning.specs.Plain.{Allowed}
 use Rattle.records.specs.Run.{ran, dictionary}
+use Rattle.automaton.specs.declared.layout.Form.{Form}
+use Rattle.automaton.specs.declared.layout.Form.the-variants.{Wide}
+use Rattle.automaton.specs.Forms.{widthIn, tableIn}
 use Rattle.automaton.specs.Insertion.{Growing}
 
 -- the bytes are a dictionary of the words X, so many of them
@@ -18,14 +21,14 @@ pub record Accepted (X : Words) (m b : List ℕ) (words : ℕ) : Type 0 where
   pub runs : dictionary m b ≡ ran X end
   pub count : words ≡ length X
 
--- .. and there is room for the states of any dictionary
-pub record Buildable (X : Words) (m b : List ℕ) (words : ℕ) (t : List ℕ) : Type 0 where
+-- .. and there is room for the states of any dictionary, in that form
+pub record Buildable (form : Form) (X : Words) (m b : List ℕ) (words : ℕ) (t : List ℕ) : Type 0 where
   pub accepted : Accepted X m b words
-  pub room : width * mostStates ≤ length t
+  pub room : widthIn form * mostStates ≤ length t
 
 -- .. and an index of no states
 pub record Plantable (X : Words) (m b : List ℕ) (words : ℕ) (t index : List ℕ) : Type 0 where
-  pub buildable : Buildable X m b words t
+  pub buildable : Buildable Wide X m b words t
   pub empty : (a : ℕ) → a < letterValues → getD index a 0 ≡ absent
 
 -- the tree of X stands; past the rows the table is as it was
@@ -33,8 +36,8 @@ pub record Planted (X : Words) (t t′ index : List ℕ) (n : ℕ) : Type 0 wher
   pub growing : Growing X (states X) t′ index n
   pub past : (i : ℕ) → width * n ≤ i → getD t′ i 0 ≡ getD t i 0
 
--- the table of X is written over t, with so many states and r
-pub record Builds (X : Words) (t t′ : List ℕ) (n r : ℕ) : Type 0 where
-  pub rows : t′ ≡ over (table X) t
+-- the table of X in that form is written over t, with so many states and r
+pub record Builds (form : Form) (X : Words) (t t′ : List ℕ) (n r : ℕ) : Type 0 where
+  pub rows : t′ ≡ over (tableIn form X) t
   pub count : n ≡ length (states X)
   pub longest : r ≡ longestChain X

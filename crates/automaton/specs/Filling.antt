@@ -1,14 +1,16 @@
--- What the functions that fill in borders and links ask and leave, and what those ask that read them.
+-- What the functions that fill in borders, links and chains ask and leave, and what those ask that read them.
 use mathlib.Core.Path.{_≡_}
+use mathlib.Core.Option.{some}
 use mathlib.Core.List.{List}
 use Prim.Native.Nat.{ℕ, _*_, _≤_, _<_}
 use lib.Dec.{eqb}
 use lib.ListN.{length, getD}
 use Rattle.meaning.specs.Numbers.{absent}
 use Rattle.meaning.specs.Words.{if_then_else_, Words, word}
-use Rattle.meaning.specs.Table.{width, borderField, linkField}
+use Rattle.meaning.specs.Automaton.{border as borderState}
+use Rattle.meaning.specs.Table.{width, borderField, linkField, chainField}
 use Rattle.automaton.specs.Layout.{fieldAt}
-use Rattle.automaton.specs.Tree.{Right, Tree, Whole, borderOf, linkOf, Indexed}
+use Rattle.automaton.specs.Tree.{Right, Tree, Whole, borderOf, linkOf, chainOf, Indexed}
 
 -- where the root goes by a
 abbrev pub rootStep : List ℕ → ℕ → ℕ
@@ -27,10 +29,18 @@ pub record LinkedAt (X S : Words) (t : List ℕ) (s : ℕ) : Type 0 where
   pub inside : s < length S
   pub link : Right S t linkField (linkOf X S) s
 
--- the border and the link of state s are right
+-- the border of state c is b, whose chain is counted
+pub record CountedAt (X S : Words) (t : List ℕ) (c b : ℕ) : Type 0 where
+  pub tree : Tree X S t
+  pub inside : c < length S
+  pub border : borderState S (word S c) ≡ some b
+  pub chain : Right S t chainField (chainOf X) b
+
+-- the border, the link and the chain's length of state s are right
 pub record Known (X S : Words) (t : List ℕ) (s : ℕ) : Type 0 where
   pub border : Right S t borderField (borderOf S) s
   pub link : Right S t linkField (linkOf X S) s
+  pub chain : Right S t chainField (chainOf X) s
 
 -- the columns of the tree, and the numbers past the n rows, are the same
 pub record SameTree (n : ℕ) (t t′ : List ℕ) : Type 0 where
@@ -38,7 +48,7 @@ pub record SameTree (n : ℕ) (t t′ : List ℕ) : Type 0 where
   pub fields : (s j : ℕ) → j < borderField → fieldAt t′ s j ≡ fieldAt t s j
   pub past : (i : ℕ) → width * n ≤ i → getD t′ i 0 ≡ getD t i 0
 
--- .. and the borders and links that were right still are
+-- .. and what was right of a state still is
 pub record Grown (X S : Words) (t t′ : List ℕ) : Type 0 where
   pub same : SameTree (length S) t t′
   pub kept : (s : ℕ) → s < length S → Known X S t s → Known X S t′ s

@@ -1,4 +1,4 @@
--- The queue of states that borders and links are filled in by, and what its functions ask and leave.
+-- The queue of states that borders, links and chains are filled in by, and what its functions ask and leave.
 use mathlib.Core.Path.{_≡_}
 use mathlib.Core.Logic.{_⊎_}
 use mathlib.Core.Option.{some}
@@ -13,7 +13,7 @@ use Rattle.automaton.specs.Layout.{fieldAt}
 use Rattle.automaton.specs.Tree.{Tree, Indexed}
 use Rattle.automaton.specs.Filling.{Known, Grown}
 
--- state s has its border; its link is written with it
+-- state s has its border; its link and its chain's length are written with it
 abbrev pub Settled : List ℕ → ℕ → Type 0
 Settled t s = fieldAt t s borderField ≡ absent → ⊥
 
@@ -38,7 +38,7 @@ pub record Queued (X S : Words) (t index q : List ℕ) (tail : ℕ) : Type 0 whe
   pub rising : (i j : ℕ) → i ≤ j → j < tail → depthIn S q i ≤ depthIn S q j
   pub count : tail + unsettled t (length S - 1) ≡ length S
 
--- p is taken out: borders and links up to its depth are there, and no state of the queue is more than one letter longer
+-- p is taken out: what is filled in of the states up to its depth is there, and no state of the queue is more than one letter longer
 pub record Taking (X S : Words) (t index q : List ℕ) (tail p : ℕ) : Type 0 where
   pub queued : Queued X S t index q tail
   pub inside : p < length S
@@ -51,7 +51,7 @@ pub record Settling (X S : Words) (t index q : List ℕ) (tail p c : ℕ) : Type
   pub letter : ℕ
   pub child : find S (snoc (word S p) letter) ≡ some c
 
--- more states have their borders and links, and stand behind the others in the queue
+-- more states are filled in, and stand behind the others in the queue
 pub record Longer (X S : Words) (t t′ index q q′ : List ℕ) (tail r p : ℕ) : Type 0 where
   pub taking : Taking X S t′ index q′ r p
   pub grown : Grown X S t t′

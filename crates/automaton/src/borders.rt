@@ -1,9 +1,10 @@
-// Borders and links, filled in one pass, breadth first: those of a state are read from the rows of shorter states.
+// Borders, links and chain lengths, filled in one pass, breadth first: those of a state are read from the rows of shorter states.
 ghost use lib.ListN.{length};
 ghost use Rattle.meaning.specs.Words.{Words};
 ghost use Rattle.automaton.specs.Insertion.{Growing};
 ghost use Rattle.automaton.specs.Filling.{Completed};
 ghost use Rattle.automaton.specs.Queue.{Settling, Settles, Taking, Taken};
+use crate::chains::count_chain;
 use crate::chains::first_word;
 use crate::layout::NONE;
 use crate::layout::border;
@@ -11,12 +12,13 @@ use crate::layout::first_child;
 use crate::layout::letter;
 use crate::layout::next_sibling;
 use crate::layout::set_border;
+use crate::layout::set_chain_length;
 use crate::layout::set_link;
 use crate::layout::wide;
 use crate::stepping::child_border;
 
-// The border and the link of p's child c, which joins the queue of `tail` states. Tells how many they are then. The border's own
-// row tells the link: no border is climbed for it.
+// The border, the link and the chain's length of p's child c, which joins the queue of `tail` states. Tells how many they are then.
+// The border's own row tells the link and the length: no border is climbed and no chain walked for them.
 fn settle(
     table: &mut [u16],
     index: &[u16; 256],
@@ -33,13 +35,15 @@ fn settle(
     }
     let b = child_border(table, index, p, letter(table, c));
     let l = first_word(table, b);
+    let k = count_chain(table, c, b);
     set_border(table, c, b);
     set_link(table, c, l);
+    set_chain_length(table, c, k);
     queue[tail] = c as u16;
     tail + 1
 }
 
-// The borders and links of the children of p, which join the queue.
+// The same of the children of p, which join the queue.
 fn take_out(
     table: &mut [u16],
     index: &[u16; 256],
@@ -59,9 +63,9 @@ fn take_out(
     tail
 }
 
-// The borders and links of all states, each once: the queue begins with the root, and depths rise along it. At most 2,048 states
-// are taken out; for each the siblings below its own letter are passed at its border, and those borders are climbed that a text of
-// its word would climb. A link costs at most two reads.
+// The same of all states, each once: the queue begins with the root, and depths rise along it. At most 2,048 states are taken out;
+// for each the siblings below its own letter are passed at its border, and those borders are climbed that a text of its word would
+// climb. A link costs at most two reads, a chain's length two.
 pub fn complete_rows(table: &mut [u16], index: &[u16; 256])
     requires { ⌜ ((X S : Words) × Growing X S (now table) (now index) (length S)) ⌝ }
     ensures { λ _. ⌜ ((X S : Words) → Growing X S (now (table .entry)) (now (index .entry)) (length S) → Completed X S (now (table .entry)) (now (table .exit))) ⌝ }

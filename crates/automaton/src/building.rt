@@ -1,12 +1,16 @@
 // The whole table of a dictionary that is accepted.
 ghost use Rattle.meaning.specs.Words.{Words};
+ghost use Rattle.automaton.specs.declared.layout.Form.the-variants.{Wide, Narrow};
 ghost use Rattle.automaton.specs.Building.{Buildable, Plantable, Planted, Builds};
 use crate::borders::complete_rows;
 use crate::chains::longest_chain;
 use crate::index::NO_CHILD;
 use crate::insertion::insert_word;
+use crate::layout::Form;
+use crate::layout::MOST_NUMBERS;
 use crate::layout::NONE;
 use crate::layout::add_row;
+use crate::layout::narrow_rows;
 
 // How many states the table has, and how long its longest chain is.
 pub struct Built {
@@ -33,15 +37,37 @@ fn plant(map: &[u8], dict: &[u8], words: usize, table: &mut [u16], index: &mut [
     n
 }
 
-// Fills a lent array of at least 14,336 numbers with the table of a dictionary that is accepted with so many words; numbers past
-// the last row stay. Linear in the letters but for the walks along siblings and borders.
-pub fn build(map: &[u8], dict: &[u8], words: usize, table: &mut [u16]) -> Built
-    requires { ⌜ ((X : Words) × Buildable X (now map) (now dict) words (now table)) ⌝ }
-    ensures { λ r. ⌜ ((X : Words) → Buildable X (now (map .entry)) (now (dict .entry)) words (now (table .entry)) → Builds X (now (table .entry)) (now (table .exit)) (r .states) (r .longest)) ⌝ }
+// Fills a lent array that has room for any table with that of a dictionary that is accepted with so many words; numbers past the
+// last row stay. Linear in the letters but for the walks along siblings and borders.
+fn build_wide(map: &[u8], dict: &[u8], words: usize, table: &mut [u16]) -> Built
+    requires { ⌜ ((X : Words) × Buildable Wide X (now map) (now dict) words (now table)) ⌝ }
+    ensures { λ r. ⌜ ((X : Words) → Buildable Wide X (now (map .entry)) (now (dict .entry)) words (now (table .entry)) → Builds Wide X (now (table .entry)) (now (table .exit)) (r .states) (r .longest)) ⌝ }
 {
     let mut index = [NO_CHILD; 256];
     let states = plant(map, dict, words, table, &mut index);
     complete_rows(table, &index);
     let longest = longest_chain(table, states);
     Built { states, longest }
+}
+
+// The same without chain lengths.
+fn build_narrow(map: &[u8], dict: &[u8], words: usize, narrow: &mut [u16]) -> Built
+    requires { ⌜ ((X : Words) × Buildable Narrow X (now map) (now dict) words (now narrow)) ⌝ }
+    ensures { λ r. ⌜ ((X : Words) → Buildable Narrow X (now (map .entry)) (now (dict .entry)) words (now (narrow .entry)) → Builds Narrow X (now (narrow .entry)) (now (narrow .exit)) (r .states) (r .longest)) ⌝ }
+{
+    let mut table = [0u16; MOST_NUMBERS];
+    let built = build_wide(map, dict, words, &mut table);
+    narrow_rows(&table, built.states, narrow);
+    built
+}
+
+// The same in either form.
+pub fn build(map: &[u8], dict: &[u8], words: usize, form: Form, table: &mut [u16]) -> Built
+    requires { ⌜ ((X : Words) × Buildable form X (now map) (now dict) words (now table)) ⌝ }
+    ensures { λ r. ⌜ ((X : Words) → Buildable form X (now (map .entry)) (now (dict .entry)) words (now (table .entry)) → Builds form X (now (table .entry)) (now (table .exit)) (r .states) (r .longest)) ⌝ }
+{
+    match form {
+        Form::Wide => build_wide(map, dict, words, table),
+        Form::Narrow => build_narrow(map, dict, words, table),
+    }
 }

@@ -1,13 +1,13 @@
-// The chain of a state: the words that end there, longest first, from link to link.
+// The chain of a state: the words that end there, longest first, from link to link; and how many they are.
 ghost use mathlib.Core.Path.{_≡_};
-ghost use Prim.Native.Nat.{_<_};
 ghost use lib.ListN.{length};
 ghost use Rattle.meaning.specs.Words.{Words, word as wordOf};
 ghost use Rattle.meaning.specs.Automaton.{nearest, chain, longestOf};
 ghost use Rattle.meaning.specs.Table.{stored};
 ghost use Rattle.automaton.specs.Tree.{Whole};
-ghost use Rattle.automaton.specs.Filling.{LinkedAt};
+ghost use Rattle.automaton.specs.Filling.{LinkedAt, CountedAt};
 use crate::layout::NONE;
+use crate::layout::chain_length;
 use crate::layout::link;
 use crate::layout::word;
 
@@ -22,18 +22,16 @@ pub fn first_word(table: &[u16], s: usize) -> usize
     link(table, s)
 }
 
-// How many words end at s, at most 64.
-fn chain_length(table: &[u16], s: usize) -> usize
-    requires { ⌜ ((X S : Words) × Whole X S (now table) × (s < length S)) ⌝ }
-    ensures { λ r. ⌜ ((X S : Words) → Whole X S (now (table .entry)) → s < length S → r ≡ length (chain X (wordOf S s))) ⌝ }
+// How many words end at c, whose border is b: those that end there, and c itself where it is a word.
+pub fn count_chain(table: &[u16], c: usize, b: usize) -> usize
+    requires { ⌜ ((X S : Words) × CountedAt X S (now table) c b) ⌝ }
+    ensures { λ r. ⌜ ((X S : Words) → CountedAt X S (now (table .entry)) c b → r ≡ length (chain X (wordOf S c))) ⌝ }
 {
-    let mut k = 0;
-    let mut v = first_word(table, s);
-    while v != NONE {
-        k += 1;
-        v = link(table, v);
+    let shorter = chain_length(table, b);
+    if word(table, c) == NONE {
+        return shorter;
     }
-    k
+    shorter + 1
 }
 
 // The greatest number of words that end at one of the n states.

@@ -1,12 +1,15 @@
-// A lent table beside that of an accepted dictionary, which is made in a local array: so a refusal writes nothing.
+// A lent table, in either form, beside that of an accepted dictionary, which is made in a local array: so a refusal writes nothing.
 ghost use mathlib.Core.Path.{_≡_};
 ghost use Rattle.meaning.specs.Words.{Words};
+ghost use Rattle.automaton.specs.Forms.{tableIn};
 ghost use Rattle.automaton.specs.Building.{Accepted};
 ghost use Rattle.automaton.specs.Lending.{judged, wrote, written};
 use crate::building::build;
-use crate::layout::WIDTH;
-use crate::rows::copy_rows;
-use crate::rows::same_rows;
+use crate::layout::Form;
+use crate::layout::MOST_NUMBERS;
+use crate::layout::row_width;
+use crate::rows::copy_numbers;
+use crate::rows::same_numbers;
 
 // What a lent table is: shorter than the rows of the states (7), with other rows (8), or right.
 pub enum Judged {
@@ -21,33 +24,34 @@ pub enum Wrote {
     Rows { states: usize, longest: usize },
 }
 
-pub fn judge_table(map: &[u8], dict: &[u8], words: usize, lent: &[u16]) -> Judged
+pub fn judge_table(map: &[u8], dict: &[u8], words: usize, form: Form, lent: &[u16]) -> Judged
     requires { ⌜ ((X : Words) × Accepted X (now map) (now dict) words) ⌝ }
-    ensures { λ r. ⌜ ((X : Words) → Accepted X (now (map .entry)) (now (dict .entry)) words → r ≡ judged X (now (lent .entry))) ⌝ }
+    ensures { λ r. ⌜ ((X : Words) → Accepted X (now (map .entry)) (now (dict .entry)) words → r ≡ judged (tableIn form X) (now (lent .entry))) ⌝ }
 {
-    let mut table = [0u16; 14336];
-    let built = build(map, dict, words, &mut table);
-    let states = built.states;
-    if lent.len() < WIDTH * states {
+    let mut table = [0u16; MOST_NUMBERS];
+    let built = build(map, dict, words, form, &mut table);
+    let end = row_width(form) * built.states;
+    if lent.len() < end {
         return Judged::Short;
     }
-    if same_rows(lent, &table, states) {
+    if same_numbers(lent, &table, end) {
         return Judged::Right;
     }
     Judged::Other
 }
 
-pub fn write_table(map: &[u8], dict: &[u8], words: usize, lent: &mut [u16]) -> Wrote
+pub fn write_table(map: &[u8], dict: &[u8], words: usize, form: Form, lent: &mut [u16]) -> Wrote
     requires { ⌜ ((X : Words) × Accepted X (now map) (now dict) words) ⌝ }
-    ensures { λ r. ⌜ ((X : Words) → Accepted X (now (map .entry)) (now (dict .entry)) words → (r ≡ wrote X (now (lent .entry))) × (now (lent .exit) ≡ written X (now (lent .entry)))) ⌝ }
+    ensures { λ r. ⌜ ((X : Words) → Accepted X (now (map .entry)) (now (dict .entry)) words → (r ≡ wrote X (tableIn form X) (now (lent .entry))) × (now (lent .exit) ≡ written (tableIn form X) (now (lent .entry)))) ⌝ }
 {
-    let mut table = [0u16; 14336];
-    let built = build(map, dict, words, &mut table);
+    let mut table = [0u16; MOST_NUMBERS];
+    let built = build(map, dict, words, form, &mut table);
     let states = built.states;
     let longest = built.longest;
-    if lent.len() < WIDTH * states {
+    let end = row_width(form) * states;
+    if lent.len() < end {
         return Wrote::Short;
     }
-    copy_rows(lent, &table, states);
+    copy_numbers(lent, &table, end);
     Wrote::Rows { states, longest }
 }

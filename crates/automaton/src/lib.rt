@@ -12,6 +12,8 @@ mod stepping;
 
 pub use chains::first_word;
 pub use index::root_index;
+pub use layout::Form;
+pub use layout::MOST_NUMBERS;
 pub use layout::NONE;
 pub use layout::border;
 pub use layout::depth;

@@ -7,8 +7,10 @@ use orgamish::NextAnswer;
 use orgamish::ScanAnswer;
 use orgamish::build;
 use orgamish::first;
+use orgamish::narrow;
 use orgamish::next;
 use orgamish::scan;
+use orgamish::widen;
 
 // The number of the refusal of a text that has no reading.
 const NO_READING: u16 = 12;
@@ -152,10 +154,45 @@ fn mixed_text(h: u64, dict: &[u8], table: &[u16], text: &[u8]) -> u64 {
     }
 }
 
+// The sum with what was told of a table, and its first `count` numbers.
+fn mixed_rows(h: u64, words: u16, states: u16, longest: u16, table: &[u16], count: usize) -> u64 {
+    let h1 = mixed(mixed(h, wide(words)), wide(states));
+    mixed_numbers(mixed(h1, wide(longest)), table, count)
+}
+
+// The sum with the table that a narrow one is widened to.
+fn mixed_widened(h: u64, dict: &[u8], stored: &[u16]) -> u64 {
+    let mut table = [0u16; 512];
+    match widen(dict, stored, &mut table) {
+        BuildAnswer::Refused { number, place } => mixed_surprise(h, number, place),
+        BuildAnswer::Built {
+            words,
+            states,
+            longest,
+        } => mixed_rows(h, words, states, longest, &table, 8 * size(states)),
+    }
+}
+
+// The sum with the table narrowed, and widened again.
+fn mixed_moves(h: u64, dict: &[u8], table: &[u16]) -> u64 {
+    let mut stored = [0u16; 448];
+    match narrow(dict, table, &mut stored) {
+        BuildAnswer::Refused { number, place } => mixed_surprise(h, number, place),
+        BuildAnswer::Built {
+            words,
+            states,
+            longest,
+        } => {
+            let h1 = mixed_rows(h, words, states, longest, &stored, 7 * size(states));
+            mixed_widened(h1, dict, &stored)
+        }
+    }
+}
+
 // The sum with what a dictionary and a text give. A dictionary of at most 64 bytes has fewer than 64
-// states, of 7 numbers each.
+// states, of 8 numbers each.
 fn mixed_build(h: u64, dict: &[u8], text: &[u8]) -> u64 {
-    let mut table = [0u16; 448];
+    let mut table = [0u16; 512];
     match build(dict, &mut table) {
         BuildAnswer::Refused { number, place } => mixed_refusal(mixed(h, 1), number, place),
         BuildAnswer::Built {
@@ -163,10 +200,16 @@ fn mixed_build(h: u64, dict: &[u8], text: &[u8]) -> u64 {
             states,
             longest,
         } => {
-            let h1 = mixed(mixed(h, 0), wide(words));
-            let h2 = mixed(mixed(h1, wide(states)), wide(longest));
-            let h3 = mixed_numbers(h2, &table, 7 * size(states));
-            mixed_text(h3, dict, &table, text)
+            let h1 = mixed_rows(
+                mixed(h, 0),
+                words,
+                states,
+                longest,
+                &table,
+                8 * size(states),
+            );
+            let h2 = mixed_moves(h1, dict, &table);
+            mixed_text(h2, dict, &table, text)
         }
     }
 }

@@ -122,6 +122,11 @@ module _ (X S : Words) where
   chain-last i z [] h = rw z
   chain-last i z (a ∷ u) h = ap (consFound (find X (a ∷ u))) (chain-none i u h)
 
+  -- .. or at the border
+  pub chain-border : Within X S → (v : Word) (b : ℕ) → border S v ≡ some b → chain X v ≡ consFound (find X v) (chain X (word S b))
+  chain-border i [] b h = none-or-some refl h
+  chain-border i (a ∷ u) b h = ap (consFound (find X (a ∷ u))) (chain-nearest S i u b h)
+
   -- the nearest word is that of the nearest state
   pub word-of-state : Within X S → (u : Word) (s : ℕ) → nearest S S u ≡ some s → nearest S X u ≡ nearest S X (word S s)
   word-of-state i = along-nearest S S (nearest S X) (λ a u e. nearest-past S X a u (i (a ∷ u) e))

@@ -11,13 +11,14 @@ use lib.ListN.{length, getD, take, length-append, length-take, length-map, List�
 use lib.Seq.{getD-append-seam, getD-take, take-suc}
 use Rattle.meaning.specs.Words.{Word, Words, snoc, word}
 use Rattle.meaning.specs.Automaton.{states, nearest, chain, longestChain}
-use Rattle.meaning.specs.Table.{stored}
+use Rattle.meaning.specs.Table.{stored, width, chainField, table}
 use Rattle.meaning.specs.Readings.{stateAt, upTo, probesTo, probes}
 use Rattle.meaning.specs.Plain.{Dictionary, Suffix, LongestIn, Shorter, Ordered, Probe}
 use Rattle.meaning.proofs.Lists.{mem-map, map-mem, ordered-map, ordered-append, snoc-length}
 use Rattle.meaning.proofs.States.{states-trie, states-within}
 use Rattle.meaning.proofs.Suffixes.{state-exists, state-step, nearest-inside, nearest-some, suffix-length}
 use Rattle.meaning.proofs.Chains.{chain-nearest, chain-within-r, chain-is, chain-falls, chain-fits}
+use Rattle.meaning.proofs.Rows.{chain-number}
 
 pub upTo-length : (f : ℕ → ℕ) (n : ℕ) → length (upTo f n) ≡ n
 upTo-length f zero = refl
@@ -58,6 +59,10 @@ module _ (X : Words) (t : Word) (i : ℕ) where
   -- the chain of a text is the chain of its state
   pub state-chain : chain X (take i t) ≡ chain X (word (states X) (stateAt X t i))
   state-chain = chain-nearest X (states X) (states X) (states-within X) (take i t) _ state-is
+
+  -- so its row tells how many words end at position i
+  pub words-ending : getD (table X) (width * stateAt X t i + chainField) 0 ≡ length (chain X (take i t))
+  words-ending = chain-number X (stateAt X t i) state-inside ∙ ap length (sym state-chain)
 
   -- the step law: the state at i + 1 from the state at i and the letter there
   pub state-next : i < length t

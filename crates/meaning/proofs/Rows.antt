@@ -1,14 +1,17 @@
 -- The table by its cells, and what a cell says.
-use mathlib.Core.Path.{_≡_, refl, sym, _∙_, ap}
+use mathlib.Core.Path.{_≡_, refl, sym, _∙_, ap, ap₂}
 use mathlib.Core.Option.{Option, none, some}
-use mathlib.Core.List.{List, [], _∷_}
-use Prim.Native.Nat.{ℕ, zero, suc, _+_, _*_, _/_, _%_, _≤_, _<_}
+use mathlib.Core.List.{List, [], _∷_, _++_}
+use Prim.Native.Nat.{ℕ, zero, suc, _+_, _*_, _≤_, _<_}
+use native.Mathlib.Nat.{mul-zero}
 use native.Mathlib.Omega.{arith}
-use lib.ListN.{length, getD, take, length-append, List·getD-append}
-use lib.Seq.{getD-take, getD-append-add, length-take-le, ext-getD}
+use lib.ListN.{length, getD, take, drop, length-append, length-drop, List·getD-append}
+use lib.Seq.{getD-take, getD-drop, getD-append-add, length-take-le, take-add, ext-getD}
 use Rattle.meaning.specs.Numbers.{letterValues, mostWords, mostStates, absent}
 use Rattle.meaning.specs.Words.{Word, Words, word}
-use Rattle.meaning.specs.Table.{stored, width, row, rows}
+use Rattle.meaning.specs.Automaton.{states, chain, longestChain}
+use Rattle.meaning.specs.Table.{stored, width, narrowWidth, chainField, narrowRow, row, rows, table, narrowTable}
+use Rattle.meaning.proofs.Chains.{chain-within-r, r-attained}
 
 -- no letter, word or state has the number that stands for none
 pub absent-free : (letterValues ≤ absent) × (mostWords ≤ absent) × (mostStates ≤ absent)
@@ -27,42 +30,66 @@ pub stored-small : (o : Option ℕ) {c : ℕ} → ((n : ℕ) → o ≡ some n �
 stored-small none l e = omega arith
 stored-small (some n) l e = omega (arith, l n refl)
 
-pub row-length : (X S : Words) (u : Word) → length (row X S u) ≡ width
-row-length X S u = refl
+-- rows of one form, all of w numbers
+module _ (w : ℕ) (form : Word → List ℕ) (full : (u : Word) → length (form u) ≡ w) where
+  pub rows-length : (us : Words) → length (rows form us) ≡ w * length us
+  rows-length [] = sym (mul-zero w)
+  rows-length (u ∷ us) = omega (arith, length-append (form u) (rows form us), full u, rows-length us)
 
-pub rows-length : (X S us : Words) → length (rows X S us) ≡ width * length us
-rows-length X S [] = refl
-rows-length X S (u ∷ us) = omega (arith, length-append (row X S u) (rows X S us), rows-length X S us)
+  here : (k : ℕ) → w * 0 + k ≡ k
+  here k = omega (arith, mul-zero w)
 
-pub rows-at : (X S us : Words) (n k i : ℕ) → i ≡ width * n + k → n < length us → k < width
-    → getD (rows X S us) i 0 ≡ getD (row X S (word us n)) k 0
-rows-at X S [] n k i e l h = absurd (omega arith)
-rows-at X S (u ∷ us) zero k i e l h =
-    let q : i ≡ k = omega arith in
-    rw q (List·getD-append (row X S u) (rows X S us) 0 k h)
-rows-at X S (u ∷ us) (suc n) k i e l h =
-    let q : i ≡ width + (width * n + k) = omega arith in
-    ap (λ (j : ℕ). getD (rows X S (u ∷ us)) j 0) q
-    ∙ getD-append-add (row X S u) (rows X S us) (width * n + k) 0
-    ∙ rows-at X S us n k (width * n + k) refl (omega arith) h
+  pub rows-at : (us : Words) (n k : ℕ) → n < length us → k < w → getD (rows form us) (w * n + k) 0 ≡ getD (form (word us n)) k 0
+  rows-at [] n k l h = absurd (omega arith)
+  rows-at (u ∷ us) zero k l h =
+      ap (λ (i : ℕ). getD (rows form (u ∷ us)) i 0) (here k)
+      ∙ List·getD-append (form u) (rows form us) 0 k (omega (arith, full u))
+  rows-at (u ∷ us) (suc n) k l h =
+      let e : w * suc n + k ≡ length (form u) + (w * n + k) = omega (arith, full u) in
+      ap (λ (i : ℕ). getD (rows form (u ∷ us)) i 0) e
+      ∙ getD-append-add (form u) (rows form us) (w * n + k) 0
+      ∙ rows-at us n k (omega arith) h
 
--- a table whose fields are those of the rows begins with the rows
-pub rows-take : (X S : Words) (t : List ℕ) → width * length S ≤ length t
-    → ((s j : ℕ) → s < length S → j < width → getD t (width * s + j) 0 ≡ getD (row X S (word S s)) j 0)
-    → take (width * length S) t ≡ rows X S S
-rows-take X S t room fields = ext-getD 0 (take (width * length S) t) (rows X S S) (long ∙ sym (rows-length X S S)) same
-  where
-    long : length (take (width * length S) t) ≡ width * length S
-    long = length-take-le (width * length S) t room
+  -- a table whose fields are those of the rows begins with the rows
+  pub rows-take : (us : Words) (t : List ℕ) → w * length us ≤ length t
+      → ((s j : ℕ) → s < length us → j < w → getD t (w * s + j) 0 ≡ getD (form (word us s)) j 0) → take (w * length us) t ≡ rows form us
+  rows-take [] t room fields = ap (λ (k : ℕ). take k t) (mul-zero w)
+  rows-take (u ∷ us) t room fields =
+      let e : w * suc (length us) ≡ w + w * length us = omega arith in
+      ap (λ (k : ℕ). take k t) e
+      ∙ take-add w (w * length us) t
+      ∙ ap₂ _++_ first (rows-take us (drop w t) (omega (arith, length-drop w t)) later)
+    where
+      first : take w t ≡ form u
+      first =
+          let long : length (take w t) ≡ w = length-take-le w t (omega arith) in
+          ext-getD 0 (take w t) (form u) (long ∙ sym (full u)) (λ j l.
+          let inside : j < w = omega (arith, long) in
+          getD-take w t j 0 inside ∙ ap (λ (i : ℕ). getD t i 0) (sym (here j)) ∙ fields 0 j (omega arith) inside)
 
-    same : (i : ℕ) → i < length (take (width * length S) t) → getD (take (width * length S) t) i 0 ≡ getD (rows X S S) i 0
-    same i l =
-        let within : i < width * length S = omega (arith, long) in
-        let e : width * (i / width) + i % width ≡ i = omega arith in
-        let row-within : i / width < length S = omega arith in
-        let field : i % width < width = omega arith in
-        getD-take (width * length S) t i 0 within
-        ∙ ap (λ (n : ℕ). getD t n 0) (sym e)
-        ∙ fields (i / width) (i % width) row-within field
-        ∙ sym (rows-at X S S (i / width) (i % width) (width * (i / width) + i % width) refl row-within field)
-        ∙ ap (λ (n : ℕ). getD (rows X S S) n 0) e
+      later : (s j : ℕ) → s < length us → j < w → getD (drop w t) (w * s + j) 0 ≡ getD (form (word us s)) j 0
+      later s j l h =
+          let e : w + (w * s + j) ≡ w * suc s + j = omega arith in
+          getD-drop w t (w * s + j) 0 ∙ ap (λ (i : ℕ). getD t i 0) e ∙ fields (suc s) j (omega arith) h
+
+-- both forms have so many numbers a state
+pub table-length : (X : Words) → length (table X) ≡ width * length (states X)
+table-length X = rows-length width (row X (states X)) (λ u. refl) (states X)
+
+pub narrow-length : (X : Words) → length (narrowTable X) ≡ narrowWidth * length (states X)
+narrow-length X = rows-length narrowWidth (narrowRow X (states X)) (λ u. refl) (states X)
+
+-- a narrow row is a row but for its last number
+pub narrow-field : (X S : Words) (u : Word) (j : ℕ) → j < narrowWidth → getD (row X S u) j 0 ≡ getD (narrowRow X S u) j 0
+narrow-field X S u j h = List·getD-append (narrowRow X S u) (length (chain X u) ∷ []) 0 j h
+
+-- the last number of a row is the length of the state's chain, ..
+pub chain-number : (X : Words) (s : ℕ) → s < length (states X) → getD (table X) (width * s + chainField) 0 ≡ length (chain X (word (states X) s))
+chain-number X s l = rows-at width (row X (states X)) (λ u. refl) (states X) s chainField l (omega arith)
+
+-- .. and r is the greatest of them
+pub r-bounds : (X : Words) (s : ℕ) → s < length (states X) → getD (table X) (width * s + chainField) 0 ≤ longestChain X
+r-bounds X s l = rw (chain-number X s l) (chain-within-r X (word (states X) s))
+
+pub r-stands : (X : Words) → (s : ℕ) × (s < length (states X)) × (getD (table X) (width * s + chainField) 0 ≡ longestChain X)
+r-stands X = let (s, l, e) = r-attained X in (s, l, chain-number X s l ∙ e)

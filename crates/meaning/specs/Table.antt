@@ -5,7 +5,7 @@ use Prim.Native.Nat.{ℕ, zero, suc, _-_}
 use lib.ListN.{length, drop}
 use Rattle.meaning.specs.Numbers.{letterValues, absent}
 use Rattle.meaning.specs.Words.{if_then_else_, Word, Words, snoc, find, has}
-use Rattle.meaning.specs.Automaton.{states, border, link}
+use Rattle.meaning.specs.Automaton.{states, border, link, chain}
 
 -- a number as a row has it
 abbrev pub stored : Option ℕ → ℕ
@@ -42,10 +42,14 @@ childPast S p (some a) = childFrom S p (suc a)
 abbrev pub nextSibling : Words → Word → Option ℕ
 nextSibling S u = childPast S (front u) (lastLetter u)
 
--- the numbers in a row, and where each stands
+-- how many numbers a row has; a narrow one, as tables in the field have them, lacks the last
 abbrev pub width : ℕ
-width = 7
+width = 8
 
+abbrev pub narrowWidth : ℕ
+narrowWidth = 7
+
+-- where each stands
 abbrev pub letterField : ℕ
 letterField = 0
 
@@ -67,9 +71,12 @@ borderField = 5
 abbrev pub linkField : ℕ
 linkField = 6
 
--- the row of the state u
-abbrev pub row : Words → Words → Word → List ℕ
-row X S u =
+abbrev pub chainField : ℕ
+chainField = 7
+
+-- the narrow row of the state u
+abbrev pub narrowRow : Words → Words → Word → List ℕ
+narrowRow X S u =
     stored (lastLetter u)
     ∷ stored (firstChild S u)
     ∷ stored (nextSibling S u)
@@ -79,12 +86,20 @@ row X S u =
     ∷ stored (link X S u)
     ∷ []
 
-abbrev pub rows : Words → Words → Words → List ℕ
-rows X S [] = []
-rows X S (u ∷ us) = row X S u ++ rows X S us
+-- its row: the length of its chain stands last
+abbrev pub row : Words → Words → Word → List ℕ
+row X S u = narrowRow X S u ++ length (chain X u) ∷ []
+
+-- the rows of states, in either form
+abbrev pub rows : (Word → List ℕ) → Words → List ℕ
+rows form [] = []
+rows form (u ∷ us) = form u ++ rows form us
 
 abbrev pub table : Words → List ℕ
-table X = rows X (states X) (states X)
+table X = rows (row X (states X)) (states X)
+
+abbrev pub narrowTable : Words → List ℕ
+narrowTable X = rows (narrowRow X (states X)) (states X)
 
 -- lent numbers with others written over them from the first on: those past them stay as they were
 abbrev pub over : List ℕ → List ℕ → List ℕ

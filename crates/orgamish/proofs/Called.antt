@@ -23,6 +23,7 @@ use Rattle.orgamish.specs.Order.{_andThen_}
 use Rattle.orgamish.specs.Judging.{passed, verdict}
 use Rattle.orgamish.specs.Calls.{toldBy, leftBy, tells, leaves}
 use Rattle.orgamish.specs.declared.judging.Verdict.the-variants.{Refused}
+use Rattle.orgamish.proofs.Verdicts.{Passes}
 
 -- the dictionary is that of X, and the tests come to n
 pub record Came (test : Words → ℕ) (run : Run) (X : Words) (n : ℕ) : Type 0 where
@@ -58,27 +59,41 @@ module _ (test : Words → ℕ) where
       go zero q = let z : _≡_ {A = ℕ} 0 1 = cc in absurd (omega arith)
       go (suc k) q = refl
 
+-- the first tests pass, and so others decide
+module _ (f g : Words → ℕ) (run : Run) (p : Passes f run) where
+  pub then-tells : (values : Words → List ℕ) → tells g values run ≡ tells (λ X. f X andThen g X) values run
+  then-tells values =
+      ap (tells g values) (p .is)
+      ∙ ap (λ (k : ℕ). toldBy (k andThen g (p .X)) (values (p .X))) (sym (p .clear))
+      ∙ ap (tells (λ X. f X andThen g X) values) (sym (p .is))
+
+  pub then-leaves : (after : Words → List ℕ) (before : List ℕ) → leaves g after before run ≡ leaves (λ X. f X andThen g X) after before run
+  then-leaves after before =
+      ap (leaves g after before) (p .is)
+      ∙ ap (λ (k : ℕ). leftBy (k andThen g (p .X)) (after (p .X)) before) (sym (p .clear))
+      ∙ ap (leaves (λ X. f X andThen g X) after before) (sym (p .is))
+
 pub then-comes : (m n : ℕ) {k : ℕ} → m ≡ 0 → n ≡ k → m andThen n ≡ k
 then-comes m n e f = ap (λ (j : ℕ). j andThen n) e ∙ f
 
 -- what became of a lent table
-pub wrote-short : (X : Words) (tb : List ℕ) → write.Short ≡ wrote X tb → tooShort X tb ≡ true
-wrote-short X tb e = go (tooShort X tb) e
+pub wrote-short : (X : Words) (T tb : List ℕ) → write.Short ≡ wrote X T tb → tooShort T tb ≡ true
+wrote-short X T tb e = go (tooShort T tb) e
   where
     go : (b : Bool) → write.Short ≡ (if b then write.Short else write.Rows (length (states X)) (longestChain X)) → b ≡ true
     go true q = refl
     go false q = let z : _≡_ {A = ℕ} 0 1 = cc in absurd (omega arith)
 
-pub record WroteRows (X : Words) (tb : List ℕ) (count longest : ℕ) : Type 0 where
-  pub fits : tooShort X tb ≡ false
+pub record WroteRows (X : Words) (T tb : List ℕ) (count longest : ℕ) : Type 0 where
+  pub fits : tooShort T tb ≡ false
   pub states : count ≡ length (states X)
   pub chain : longest ≡ longestChain X
 
-pub wrote-rows : (X : Words) (tb : List ℕ) {s l : ℕ} → write.Rows s l ≡ wrote X tb → WroteRows X tb s l
-wrote-rows X tb {s} {l} e = go (tooShort X tb) refl e
+pub wrote-rows : (X : Words) (T tb : List ℕ) {s l : ℕ} → write.Rows s l ≡ wrote X T tb → WroteRows X T tb s l
+wrote-rows X T tb {s} {l} e = go (tooShort T tb) refl e
   where
-    go : (b : Bool) → tooShort X tb ≡ b → write.Rows s l ≡ (if b then write.Short else write.Rows (length (states X)) (longestChain X))
-        → WroteRows X tb s l
+    go : (b : Bool) → tooShort T tb ≡ b → write.Rows s l ≡ (if b then write.Short else write.Rows (length (states X)) (longestChain X))
+        → WroteRows X T tb s l
     go true p q = let z : _≡_ {A = ℕ} 0 1 = cc in absurd (omega arith)
     go false p q = record { fits = p; states = cc; chain = cc }
 

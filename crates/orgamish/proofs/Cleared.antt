@@ -2,15 +2,14 @@
 use mathlib.Core.Path.{_≡_, refl, _∙_}
 use mathlib.Core.Bool.{Bool, true, false}
 use mathlib.Core.List.{List}
-use Prim.Native.Nat.{ℕ, zero, suc, _*_, _≤_}
+use Prim.Native.Nat.{ℕ, zero, suc, _≤_}
 use native.Mathlib.Omega.{arith}
 use lib.Dec.{leb, ltb}
 use lib.ListN.{length, take}
 use borrow.Author.Tests.{ltb-false, leb-false}
 use Rattle.meaning.specs.Numbers.{longestText}
 use Rattle.meaning.specs.Words.{if_then_else_, Word, Words, same}
-use Rattle.meaning.specs.Automaton.{states}
-use Rattle.meaning.specs.Table.{width, table}
+use Rattle.meaning.specs.Table.{table}
 use Rattle.meaning.specs.Readings.{stateColumn, countColumn}
 use Rattle.meaning.specs.Plain.{Allowed}
 use Rattle.meaning.proofs.Find.{same-true}
@@ -47,14 +46,23 @@ rows-same true c e = absurd (omega arith)
 rows-same false true e = refl
 rows-same false false e = absurd (omega arith)
 
-pub table-right : {X : Words} {tb : List ℕ} → Allowed X → tableRefusal X tb ≡ 0 → IsTable X tb
-table-right {X} {tb} α e = record {
-  allowed = α;
-  rows = same-true _ _ (rows-same (tooShort X tb) (same (take (width * length (states X)) tb) (table X)) e);
-}
+rows-fit : (b c : Bool) → rowsNumber (if b then judge.Short else if c then judge.Right else judge.Other) ≡ 0 → b ≡ false
+rows-fit true c e = absurd (omega arith)
+rows-fit false c e = refl
+
+-- a lent table that should be T begins with it
+module _ (T lent : List ℕ) (e : tableRefusal T lent ≡ 0) where
+  pub begins-with : take (length T) lent ≡ T
+  begins-with = same-true _ _ (rows-same (tooShort T lent) (same (take (length T) lent) T) e)
+
+  pub long-enough : length T ≤ length lent
+  long-enough = ltb-false (length lent) (length T) (rows-fit (tooShort T lent) (same (take (length T) lent) T) e)
+
+pub table-right : {X : Words} {tb : List ℕ} → Allowed X → tableRefusal (table X) tb ≡ 0 → IsTable X tb
+table-right {X} {tb} α e = record { allowed = α; rows = begins-with (table X) tb e }
 
 sizes-clear : (X : Words) (tb : List ℕ) (t : Word) (ss cs : List ℕ) → scanRefusal X tb t ss cs ≡ 0 → textRefusal t andThen roomRefusal t ss cs ≡ 0
-sizes-clear X tb t ss cs e = none-second (tableRefusal X tb) (textRefusal t andThen roomRefusal t ss cs) e
+sizes-clear X tb t ss cs e = none-second (tableRefusal (table X) tb) (textRefusal t andThen roomRefusal t ss cs) e
 
 pub short-text : (X : Words) (tb : List ℕ) (t : Word) (ss cs : List ℕ) → listRefusal X tb t ss cs ≡ 0 → length t ≤ longestText
 short-text X tb t ss cs e =
@@ -70,7 +78,7 @@ module _ {X : Words} {tb : List ℕ} {t : Word} {ss cs : List ℕ} (α : Allowed
       let fits = none-second (textRefusal t) (roomRefusal t ss cs) sizes in
       let counted : ℕ = if leb (length cs) (length t) then 10 else 0 in
       record {
-        table = table-right α (none-first (tableRefusal X tb) (textRefusal t andThen roomRefusal t ss cs) e);
+        table = table-right α (none-first (tableRefusal (table X) tb) (textRefusal t andThen roomRefusal t ss cs) e);
         short = ltb-false longestText (length t) (test-false (ltb longestText (length t)) 8 0 (none-first (textRefusal t) (roomRefusal t ss cs) sizes));
         states = leb-false (length ss) (length t) (test-false (leb (length ss) (length t)) 9 counted fits);
         counts = leb-false (length cs) (length t) (test-false (leb (length cs) (length t)) 9 0 (rest (leb (length ss) (length t)) 9 counted fits));

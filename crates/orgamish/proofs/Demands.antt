@@ -1,21 +1,24 @@
--- Demands 2 and 3 of document 01, and what farthest is, over the contracts of the public calls.
+-- Demands 2 and 3 of document 01, what farthest is, and what a row tells of a position, over the contracts of the public calls.
 use mathlib.Core.Path.{_≡_, refl, sym, ap, _∙_}
 use mathlib.Core.Logic.{_↔_}
 use mathlib.Core.Bool.{Bool, true, false}
 use mathlib.Core.Option.{Option, some}
 use mathlib.Core.List.{List, [], _∷_, _++_, head?, append-assoc, List·Memᴰ, List·Memᴰ·head, List·Memᴰ·tail}
-use Prim.Native.Nat.{ℕ, zero, suc, _≤_, _<_}
+use Prim.Native.Nat.{ℕ, zero, suc, _+_, _*_, _≤_, _<_}
 use native.Mathlib.Omega.{arith}
 use borrow.Author.Tests.{le-ltb, le-leb}
 use lib.ListN.{length, getD, getElem?, take, drop, length-append, length-drop}
-use lib.Seq.{take-append-seam}
+use lib.Seq.{getD-take, take-append-seam}
 use Rattle.meaning.specs.Numbers.{letterValues}
 use Rattle.meaning.specs.Words.{Word, Words, Reading}
-use Rattle.meaning.specs.Table.{over}
-use Rattle.meaning.specs.Readings.{readings, accepted, capped, countAt, probes, farthest}
+use Rattle.meaning.specs.Automaton.{chain}
+use Rattle.meaning.specs.Table.{width, chainField, table, over}
+use Rattle.meaning.specs.Readings.{readings, accepted, capped, countAt, stateAt, probes, farthest}
 use Rattle.meaning.specs.Listing.{isReading, nextReading}
-use Rattle.meaning.specs.Plain.{Dictionary, Star, Farthest, IsReading, LettersBelow}
+use Rattle.meaning.specs.Plain.{Dictionary, Allowed, Star, Farthest, IsReading, LettersBelow}
+use Rattle.meaning.proofs.Rows.{table-length}
 use Rattle.meaning.proofs.Readings.{accepted-is-star, readings-are, isReading-is}
+use Rattle.meaning.proofs.Columns.{column-at, state-inside, words-ending}
 use Rattle.meaning.proofs.Farthest.{farthest-is}
 use Rattle.meaning.proofs.Next.{next-at}
 use Rattle.records.specs.Letters.{mapped, identity}
@@ -23,11 +26,13 @@ use Rattle.records.specs.Run.{ran, dictionary}
 use Rattle.records.specs.Told.{Told, answer, refusal}
 use Rattle.records.proofs.Bytes.{identity-below, mapped-identity}
 use Rattle.records.proofs.Accepted as record-laws
+use Rattle.columns.specs.Columns.{Scanned}
 use Rattle.orgamish.specs.Order.{_andThen_, scanRefusal, listRefusal, unreadRefusal, givenRefusal, fitRefusal, firstRefusal, nextRefusal}
 use Rattle.orgamish.specs.Calls.{flag, lengthOf, listed, scanTells, firstLeaves, nextTells, nextLeaves}
 use Rattle.orgamish.specs.Answers.{scanTold}
 use Rattle.orgamish.specs.Listings.{Heard, heard, goOn, listingFrom, listing}
-use Rattle.orgamish.specs.declared.answers.ScanAnswer.the-variants.{Scanned}
+use Rattle.orgamish.specs.declared.answers.ScanAnswer.the-variants as scan
+use Rattle.orgamish.proofs.Cleared.{scanned}
 use Rattle.orgamish.proofs.Called.{Came, came-tells, came-leaves, then-comes}
 use Rattle.orgamish.proofs.Listings.{reading-short}
 use Rattle.orgamish.proofs.Determined.{flag-once}
@@ -66,8 +71,11 @@ next-behind X t Q ns L e =
 
 -- the words of an accepted dictionary
 module _ (d : List ℕ) {X : Words} {end : ℕ} (is : dictionary identity d ≡ ran X end) where
+  allowed : Allowed X
+  allowed = record-laws.allowed identity-below (record-laws.accepted false identity d is)
+
   words : Dictionary X
-  words = record-laws.allowed identity-below (record-laws.accepted false identity d is) .storable .dictionary
+  words = allowed .storable .dictionary
 
   module _ (tb u ss cs : List ℕ) where
     abbrev t : Word
@@ -75,7 +83,7 @@ module _ (d : List ℕ) {X : Words} {end : ℕ} (is : dictionary identity d ≡ 
 
     -- what an answer of the scan says
     module _ (clear : scanRefusal X tb t ss cs ≡ 0) (yes : Bool) (f c p : ℕ)
-        (e : scanTold (Scanned yes f c p) ≡ scanTells identity d tb u ss cs) where
+        (e : scanTold (scan.Scanned yes f c p) ≡ scanTells identity d tb u ss cs) where
       abbrev values : Words → List ℕ
       values Y = flag (accepted Y t) ∷ farthest Y t ∷ countAt Y t (length t) ∷ probes Y t ∷ []
 
@@ -103,8 +111,18 @@ module _ (d : List ℕ) {X : Words} {end : ℕ} (is : dictionary identity d ≡ 
           let far : f ≡ farthest X t = let q = told in cc in
           farthest-is X words u f .1 (far ∙ ap (farthest X) (mapped-identity u bytes))
 
-    -- demand 3: first and then next
     module _ (clear : listRefusal X tb t ss cs ≡ 0) where
+      -- the row of the state at position i tells how many words end there
+      pub tells-ending : (i : ℕ) → i ≤ length t → getD tb (width * getD ss i 0 + chainField) 0 ≡ length (chain X (take i t))
+      tells-ending i h =
+          let σ : Scanned X t tb ss cs = scanned allowed clear in
+          let inside = state-inside X t i in
+          ap (λ (s : ℕ). getD tb (width * s + chainField) 0) (column-at (stateAt X t) (suc (length t)) ss (σ .columns .states) i (omega arith))
+          ∙ sym (getD-take (length (table X)) tb (width * stateAt X t i + chainField) 0 (omega (arith, table-length X)))
+          ∙ ap (λ (T : List ℕ). getD T (width * stateAt X t i + chainField) 0) (σ .table .rows)
+          ∙ words-ending X t i
+
+      -- demand 3: first and then next
       abbrev End : Told
       End = answer (0 ∷ [])
 

@@ -4,8 +4,9 @@ use mathlib.Core.Bool.{Bool, true, false}
 use mathlib.Core.List.{List}
 use Prim.Native.Nat.{ℕ}
 use native.Mathlib.Omega.{arith}
+use Rattle.records.specs.Told.{Told}
 use Rattle.records.proofs.Determined.{parts}
-use Rattle.orgamish.specs.Calls.{flag, buildTells, buildLeaves, scanTells, scanLeavesStates, scanLeavesCounts, firstTells, firstLeaves, nextTells, nextLeaves, bookTells}
+use Rattle.orgamish.specs.Calls.{flag, buildTells, buildLeaves, widenTells, widenLeaves, narrowTells, narrowLeaves, scanTells, scanLeavesStates, scanLeavesCounts, firstTells, firstLeaves, nextTells, nextLeaves, bookTells}
 use Rattle.orgamish.specs.Answers.{buildTold, scanTold, firstTold, nextTold, bookTold}
 use Rattle.orgamish.specs.declared.answers.BuildAnswer.{BuildAnswer}
 use Rattle.orgamish.specs.declared.answers.BuildAnswer.the-variants as built
@@ -63,13 +64,27 @@ book-once (book.Blocks w n) (book.Refused k o) e = let p = parts e in cc
 book-once (book.Refused n p) (book.Blocks v k) e = let p = parts e in cc
 book-once (book.Refused n p) (book.Refused k o) e = let p = parts e in cc
 
-module _ (m d tb : List ℕ) where
-  -- what build's contract allows, and so on
-  abbrev BuildAllows : BuildAnswer → List ℕ → Type 0
-  BuildAllows r table = (buildTold r ≡ buildTells m d tb) × (table ≡ buildLeaves m d tb)
+-- what a contract allows that is to tell so and to leave a table so, and so on
+abbrev TableAllows : Told → List ℕ → BuildAnswer → List ℕ → Type 0
+TableAllows told left r table = (buildTold r ≡ told) × (table ≡ left)
 
-  pub build-decides : (r s : BuildAnswer) (t u : List ℕ) → BuildAllows r t → BuildAllows s u → (r ≡ s) × (t ≡ u)
-  build-decides r s t u p q = (build-once r s (p .0 ∙ sym (q .0)), p .1 ∙ sym (q .1))
+table-decides : (told : Told) (left : List ℕ) (r s : BuildAnswer) (t u : List ℕ) → TableAllows told left r t → TableAllows told left s u
+    → (r ≡ s) × (t ≡ u)
+table-decides told left r s t u p q = (build-once r s (p .0 ∙ sym (q .0)), p .1 ∙ sym (q .1))
+
+module _ (m d tb : List ℕ) where
+  pub build-decides : (r s : BuildAnswer) (t u : List ℕ) → TableAllows (buildTells m d tb) (buildLeaves m d tb) r t
+      → TableAllows (buildTells m d tb) (buildLeaves m d tb) s u → (r ≡ s) × (t ≡ u)
+  build-decides = table-decides (buildTells m d tb) (buildLeaves m d tb)
+
+  module _ (nt : List ℕ) where
+    pub widen-decides : (r s : BuildAnswer) (t u : List ℕ) → TableAllows (widenTells m d tb nt) (widenLeaves m d tb nt) r t
+        → TableAllows (widenTells m d tb nt) (widenLeaves m d tb nt) s u → (r ≡ s) × (t ≡ u)
+    widen-decides = table-decides (widenTells m d tb nt) (widenLeaves m d tb nt)
+
+    pub narrow-decides : (r s : BuildAnswer) (t u : List ℕ) → TableAllows (narrowTells m d tb nt) (narrowLeaves m d tb nt) r t
+        → TableAllows (narrowTells m d tb nt) (narrowLeaves m d tb nt) s u → (r ≡ s) × (t ≡ u)
+    narrow-decides = table-decides (narrowTells m d tb nt) (narrowLeaves m d tb nt)
 
   module _ (text ss cs : List ℕ) where
     abbrev ScanAllows : ScanAnswer → List ℕ → List ℕ → Type 0

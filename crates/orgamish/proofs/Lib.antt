@@ -3,4 +3,5 @@ pub mod Cleared
 pub mod Called
 pub mod Listings
 pub mod Determined
+pub mod Moves
 pub mod Demands

@@ -6,14 +6,14 @@ use Prim.Native.Nat.{ℕ, zero, suc}
 use lib.ListN.{length, take}
 use Rattle.meaning.specs.Words.{Words, Reading}
 use Rattle.meaning.specs.Automaton.{states, longestChain}
-use Rattle.meaning.specs.Table.{table, over}
+use Rattle.meaning.specs.Table.{table, narrowTable, over}
 use Rattle.meaning.specs.Readings.{readings, accepted, countAt, stateColumn, countColumn, probes, farthest}
 use Rattle.meaning.specs.Listing.{nextReading}
 use Rattle.records.specs.Letters.{mapped}
 use Rattle.records.specs.Run.{Run, ran, refused, dictionary}
 use Rattle.records.specs.Book.{Opened, opened, shut, book}
 use Rattle.records.specs.Told.{Told, refusal, answer}
-use Rattle.orgamish.specs.Order.{buildRefusal, scanRefusal, firstRefusal, nextRefusal}
+use Rattle.orgamish.specs.Order.{buildRefusal, moveRefusal, scanRefusal, firstRefusal, nextRefusal}
 
 -- a refusal of that number, or the values where it is 0
 abbrev pub toldBy : ℕ → List ℕ → Told
@@ -47,14 +47,47 @@ abbrev pub listed : Option Reading → List ℕ → List ℕ
 listed none buffer = buffer
 listed (some ws) buffer = over ws buffer
 
--- the letter map m, the dictionary d, the table tb
+-- words, states, r
+abbrev pub measures : Words → List ℕ
+measures X = length X ∷ length (states X) ∷ longestChain X ∷ []
+
+-- A table is written to lent numbers, in a form: `table`, or `narrowTable`. The letter map m, the dictionary d.
+module _ (form : Words → List ℕ) (m d lent : List ℕ) where
+  abbrev pub writeTells : Told
+  writeTells = tells (λ X. buildRefusal (form X) lent) measures (dictionary m d)
+
+  abbrev pub writeLeaves : List ℕ
+  writeLeaves = leaves (λ X. buildRefusal (form X) lent) (λ X. over (form X) lent) lent (dictionary m d)
+
+  -- .. from that which the input has in another form
+  module _ (other : Words → List ℕ) (input : List ℕ) where
+    abbrev pub moveTells : Told
+    moveTells = tells (λ X. moveRefusal (other X) (form X) input lent) measures (dictionary m d)
+
+    abbrev pub moveLeaves : List ℕ
+    moveLeaves = leaves (λ X. moveRefusal (other X) (form X) input lent) (λ X. over (form X) lent) lent (dictionary m d)
+
+-- the table tb
 module _ (m d tb : List ℕ) where
   abbrev pub buildTells : Told
-  buildTells =
-      tells (λ X. buildRefusal X tb) (λ X. length X ∷ length (states X) ∷ longestChain X ∷ []) (dictionary m d)
+  buildTells = writeTells table m d tb
 
   abbrev pub buildLeaves : List ℕ
-  buildLeaves = leaves (λ X. buildRefusal X tb) (λ X. over (table X) tb) tb (dictionary m d)
+  buildLeaves = writeLeaves table m d tb
+
+  -- the narrow table nt: widen reads it and writes tb, narrow reads tb and writes it
+  module _ (nt : List ℕ) where
+    abbrev pub widenTells : Told
+    widenTells = moveTells table m d tb narrowTable nt
+
+    abbrev pub widenLeaves : List ℕ
+    widenLeaves = moveLeaves table m d tb narrowTable nt
+
+    abbrev pub narrowTells : Told
+    narrowTells = moveTells narrowTable m d nt table tb
+
+    abbrev pub narrowLeaves : List ℕ
+    narrowLeaves = moveLeaves narrowTable m d nt table tb
 
   -- the text's bytes u, the columns ss and cs
   module _ (u ss cs : List ℕ) where

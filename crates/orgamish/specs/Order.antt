@@ -7,6 +7,7 @@ use lib.Dec.{leb, ltb}
 use lib.ListN.{length, take}
 use Rattle.meaning.specs.Numbers.{longestText}
 use Rattle.meaning.specs.Words.{if_then_else_, Word, Words, Reading}
+use Rattle.meaning.specs.Table.{table}
 use Rattle.meaning.specs.Readings.{readings}
 use Rattle.meaning.specs.Listing.{isReading, nextReading}
 use Rattle.automaton.specs.Lending.{tooShort, judged}
@@ -25,8 +26,9 @@ rowsNumber judge.Short = 7
 rowsNumber judge.Other = 8
 rowsNumber judge.Right = 0
 
-abbrev pub tableRefusal : Words → List ℕ → ℕ
-tableRefusal X tb = rowsNumber (judged X tb)
+-- .. of a lent table that should be T
+abbrev pub tableRefusal : List ℕ → List ℕ → ℕ
+tableRefusal T lent = rowsNumber (judged T lent)
 
 -- 9
 abbrev pub textRefusal : Word → ℕ
@@ -60,13 +62,17 @@ abbrev pub fitRefusal : Option Reading → List ℕ → ℕ
 fitRefusal none buffer = 0
 fitRefusal (some ws) buffer = if leb (length ws) (length buffer) then 0 else 14
 
--- build
-abbrev pub buildRefusal : Words → List ℕ → ℕ
-buildRefusal X tb = if tooShort X tb then 7 else 0
+-- build: T is to be written
+abbrev pub buildRefusal : List ℕ → List ℕ → ℕ
+buildRefusal T lent = if tooShort T lent then 7 else 0
+
+-- widen and narrow: the input should be T, and U is to be written
+abbrev pub moveRefusal : List ℕ → List ℕ → List ℕ → List ℕ → ℕ
+moveRefusal T U input lent = tableRefusal T input andThen buildRefusal U lent
 
 -- scan
 abbrev pub scanRefusal : Words → List ℕ → Word → List ℕ → List ℕ → ℕ
-scanRefusal X tb t ss cs = tableRefusal X tb andThen textRefusal t andThen roomRefusal t ss cs
+scanRefusal X tb t ss cs = tableRefusal (table X) tb andThen textRefusal t andThen roomRefusal t ss cs
 
 -- first and next, before they look at a reading
 abbrev pub listRefusal : Words → List ℕ → Word → List ℕ → List ℕ → ℕ

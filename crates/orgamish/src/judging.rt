@@ -2,8 +2,10 @@
 ghost use mathlib.Core.Path.{_≡_};
 ghost use Rattle.records.specs.Letters.{mapped};
 ghost use Rattle.records.specs.Run.{dictionary};
+ghost use Rattle.automaton.specs.Forms.{tableIn};
 ghost use Rattle.orgamish.specs.Order.{tableRefusal, scanRefusal, listRefusal};
 ghost use Rattle.orgamish.specs.Judging.{verdict};
+use automaton::Form;
 use automaton::Judged;
 use automaton::judge_table;
 use columns::are_columns;
@@ -17,9 +19,9 @@ pub enum Verdict {
     Refused { number: u16, place: u16 },
 }
 
-// The dictionary, 7, 8.
-pub fn judge_rows(map: &[u8], dict: &[u8], table: &[u16]) -> Verdict
-    ensures { λ r. ⌜ r ≡ verdict (λ X. tableRefusal X (now (table .entry))) (dictionary (now (map .entry)) (now (dict .entry))) ⌝ }
+// The dictionary, 7, 8: of a table in either form.
+pub fn judge_rows(map: &[u8], dict: &[u8], form: Form, table: &[u16]) -> Verdict
+    ensures { λ r. ⌜ r ≡ verdict (λ X. tableRefusal (tableIn form X) (now (table .entry))) (dictionary (now (map .entry)) (now (dict .entry))) ⌝ }
 {
     match check_dictionary(map, dict) {
         Dictionary::Refused { number, place } => Verdict::Refused { number, place },
@@ -27,7 +29,7 @@ pub fn judge_rows(map: &[u8], dict: &[u8], table: &[u16]) -> Verdict
             words,
             letters: _,
             end: _,
-        } => match judge_table(map, dict, words as usize, table) {
+        } => match judge_table(map, dict, words as usize, form, table) {
             Judged::Short => Verdict::Refused {
                 number: 7,
                 place: 0,
@@ -52,7 +54,7 @@ pub fn judge_scan(
 ) -> Verdict
     ensures { λ r. ⌜ r ≡ verdict (λ X. scanRefusal X (now (table .entry)) (mapped (now (map .entry)) (now (text .entry))) (now (states .entry)) (now (counts .entry))) (dictionary (now (map .entry)) (now (dict .entry))) ⌝ }
 {
-    match judge_rows(map, dict, table) {
+    match judge_rows(map, dict, Form::Wide, table) {
         Verdict::Refused { number, place } => Verdict::Refused { number, place },
         Verdict::Passed => {
             if LONGEST_TEXT < text.len() {

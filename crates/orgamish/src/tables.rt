@@ -1,20 +1,24 @@
-// Build: the table of a dictionary.
+// Tables: built, and moved from one form to the other.
 ghost use mathlib.Core.Path.{_≡_};
 ghost use Rattle.records.specs.Letters.{identity as identityOf};
-ghost use Rattle.orgamish.specs.Calls.{buildTells, buildLeaves};
+ghost use Rattle.automaton.specs.Forms.{tableIn};
+ghost use Rattle.orgamish.specs.Calls.{writeTells, writeLeaves, moveTells, moveLeaves, buildTells, buildLeaves, widenTells, widenLeaves, narrowTells, narrowLeaves};
 ghost use Rattle.orgamish.specs.Answers.{buildTold};
 use crate::answers::BuildAnswer;
+use crate::judging::Verdict;
+use crate::judging::judge_rows;
+use automaton::Form;
 use automaton::Wrote;
 use automaton::write_table;
 use records::Dictionary;
 use records::check_dictionary;
 use records::identity;
 
-// Under a letter map.
-pub fn build_by(map: &[u8], dict: &[u8], table: &mut [u16]) -> BuildAnswer
+// Under a letter map, in either form.
+pub fn build_in(map: &[u8], dict: &[u8], form: Form, table: &mut [u16]) -> BuildAnswer
     ensures { λ r. ⌜
-        (buildTold r ≡ buildTells (now (map .entry)) (now (dict .entry)) (now (table .entry)))
-        × (now (table .exit) ≡ buildLeaves (now (map .entry)) (now (dict .entry)) (now (table .entry))) ⌝ }
+        (buildTold r ≡ writeTells (tableIn form) (now (map .entry)) (now (dict .entry)) (now (table .entry)))
+        × (now (table .exit) ≡ writeLeaves (tableIn form) (now (map .entry)) (now (dict .entry)) (now (table .entry))) ⌝ }
 {
     match check_dictionary(map, dict) {
         Dictionary::Refused { number, place } => BuildAnswer::Refused { number, place },
@@ -22,7 +26,7 @@ pub fn build_by(map: &[u8], dict: &[u8], table: &mut [u16]) -> BuildAnswer
             words,
             letters: _,
             end: _,
-        } => match write_table(map, dict, words as usize, table) {
+        } => match write_table(map, dict, words as usize, form, table) {
             Wrote::Short => BuildAnswer::Refused {
                 number: 7,
                 place: 0,
@@ -36,6 +40,25 @@ pub fn build_by(map: &[u8], dict: &[u8], table: &mut [u16]) -> BuildAnswer
     }
 }
 
+// The input, in its form, is judged first; then its table is written in the other.
+fn move_in(
+    map: &[u8],
+    dict: &[u8],
+    other: Form,
+    input: &[u16],
+    form: Form,
+    table: &mut [u16],
+) -> BuildAnswer
+    ensures { λ r. ⌜
+        (buildTold r ≡ moveTells (tableIn form) (now (map .entry)) (now (dict .entry)) (now (table .entry)) (tableIn other) (now (input .entry)))
+        × (now (table .exit) ≡ moveLeaves (tableIn form) (now (map .entry)) (now (dict .entry)) (now (table .entry)) (tableIn other) (now (input .entry))) ⌝ }
+{
+    match judge_rows(map, dict, other, input) {
+        Verdict::Refused { number, place } => BuildAnswer::Refused { number, place },
+        Verdict::Passed => build_in(map, dict, form, table),
+    }
+}
+
 // The table that a dictionary gives is written to the first numbers of a lent one.
 pub fn build(dict: &[u8], table: &mut [u16]) -> BuildAnswer
     ensures { λ r. ⌜
@@ -43,5 +66,25 @@ pub fn build(dict: &[u8], table: &mut [u16]) -> BuildAnswer
         × (now (table .exit) ≡ buildLeaves identityOf (now (dict .entry)) (now (table .entry))) ⌝ }
 {
     let map = identity();
-    build_by(&map, dict, table)
+    build_in(&map, dict, Form::Wide, table)
+}
+
+// A table stored with seven numbers a row is written with eight.
+pub fn widen(dict: &[u8], narrow: &[u16], table: &mut [u16]) -> BuildAnswer
+    ensures { λ r. ⌜
+        (buildTold r ≡ widenTells identityOf (now (dict .entry)) (now (table .entry)) (now (narrow .entry)))
+        × (now (table .exit) ≡ widenLeaves identityOf (now (dict .entry)) (now (table .entry)) (now (narrow .entry))) ⌝ }
+{
+    let map = identity();
+    move_in(&map, dict, Form::Narrow, narrow, Form::Wide, table)
+}
+
+// .. and one of eight with seven.
+pub fn narrow(dict: &[u8], table: &[u16], narrow: &mut [u16]) -> BuildAnswer
+    ensures { λ r. ⌜
+        (buildTold r ≡ narrowTells identityOf (now (dict .entry)) (now (table .entry)) (now (narrow .entry)))
+        × (now (narrow .exit) ≡ narrowLeaves identityOf (now (dict .entry)) (now (table .entry)) (now (narrow .entry))) ⌝ }
+{
+    let map = identity();
+    move_in(&map, dict, Form::Wide, table, Form::Narrow, narrow)
 }

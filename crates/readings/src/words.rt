@@ -5,19 +5,17 @@ ghost use Rattle.meaning.specs.Numbers.{mostWords, longestBook};
 use super::blocks::print_blocks;
 use super::lines::print_refusal;
 use orgamish::BuildAnswer;
+use orgamish::MOST_NUMBERS;
 use orgamish::build;
 use records::Dictionary;
 use records::book_words;
 use records::identity;
 
-// Seven numbers for each of 2,048 states: the most that a dictionary gives.
-const TABLE_NUMBERS: usize = 14336;
-
 // The lines of a book whose block records start at an offset, after so many words.
 fn print_readings(book: &[u8], start: usize, words: u16)
     requires { ⌜ (start ≤ length (now book)) × (length (now book) ≤ longestBook) × (words ≤ mostWords) ⌝ }
 {
-    let mut table = [0u16; TABLE_NUMBERS];
+    let mut table = [0u16; MOST_NUMBERS];
     match build(&book[..start], &mut table) {
         BuildAnswer::Refused { number, place } => {
             print_refusal(number, place);

@@ -113,7 +113,7 @@ pub fn states_of(letters: &[u8; 64], words: Parts) -> Parts {
 }
 
 // r: the greatest number of words that are suffixes of one state.
-pub fn greatest_chain(letters: &[u8; 64], words: Parts, states: Parts) -> u64 {
+fn greatest_chain(letters: &[u8; 64], words: Parts, states: Parts) -> u64 {
     let count = states.count;
     let mut greatest = 0;
     for s in 0..count {
@@ -204,8 +204,15 @@ fn link(letters: &[u8; 64], words: Parts, states: Parts, state: Part) -> usize {
     find(letters, states, letters, word.from, word.len)
 }
 
-// The sum with one row's seven numbers.
-fn mixed_row(h: u64, letters: &[u8; 64], words: Parts, states: Parts, s: usize) -> u64 {
+// The sum with one row's numbers: the last of eight is how many words are its suffixes, and is left out of seven.
+fn mixed_row(
+    h: u64,
+    letters: &[u8; 64],
+    words: Parts,
+    states: Parts,
+    s: usize,
+    width: usize,
+) -> u64 {
     let state = part_at(states, s);
     let h1 = mixed(h, last_letter(letters, state) as u64);
     let h2 = mixed(h1, child_from(letters, states, state, 0) as u64);
@@ -216,14 +223,28 @@ fn mixed_row(h: u64, letters: &[u8; 64], words: Parts, states: Parts, s: usize) 
         find(letters, words, letters, state.from, state.len) as u64,
     );
     let h6 = mixed(h5, border(letters, states, state) as u64);
-    mixed(h6, link(letters, words, states, state) as u64)
+    let h7 = mixed(h6, link(letters, words, states, state) as u64);
+    if width < 8 {
+        return h7;
+    }
+    mixed(
+        h7,
+        how_many_end(letters, words, letters, end_of(state), state.len),
+    )
 }
 
-pub fn mixed_table(h: u64, letters: &[u8; 64], words: Parts, states: Parts) -> u64 {
+fn mixed_rows(h: u64, letters: &[u8; 64], words: Parts, states: Parts, width: usize) -> u64 {
     let count = states.count;
     let mut sum = h;
     for s in 0..count {
-        sum = mixed_row(sum, letters, words, states, s);
+        sum = mixed_row(sum, letters, words, states, s, width);
     }
     sum
+}
+
+// The sum with the numbers of words and states, r, and the rows, of so many numbers each.
+pub fn mixed_table(h: u64, letters: &[u8; 64], words: Parts, states: Parts, width: usize) -> u64 {
+    let h1 = mixed(mixed(h, words.count as u64), states.count as u64);
+    let h2 = mixed(h1, greatest_chain(letters, words, states));
+    mixed_rows(h2, letters, words, states, width)
 }

@@ -21,8 +21,9 @@
 // The checksum h is 0 at first, and mixing v in makes it (h * 1000003 + v + 1) % 4294967291. Of each
 // case are mixed in, in this order:
 // - dictionary refused: 1, the refusal's number, its place, and nothing more;
-// - not refused: 0; the numbers of words and states, and r; the table's numbers, seven for each
-//   state, row by row, 65,535 for none; the state column, positions 0 to the text's length; the
+// - not refused: 0; the numbers of words and states, and r; the table's numbers, eight for each
+//   state, row by row, 65,535 for none; the same once more of the table moved to seven numbers a
+//   row, and of that moved back to eight; the state column, positions 0 to the text's length; the
 //   count column likewise; the verdict (1 accepted, 0 not), farthest (the greatest length of a prefix
 //   of the text that is also a prefix of some concatenation of words), the count at the end, probes;
 //   for each reading, in the order of listing and 40 at most, the number of its words and its word
@@ -36,7 +37,6 @@ mod scan;
 mod strings;
 mod sum;
 
-use automaton::greatest_chain;
 use automaton::mixed_table;
 use automaton::parse;
 use automaton::states_of;
@@ -78,12 +78,11 @@ fn mixed_case(h: u64, d: &[u8; 64], d_len: usize, text: &[u8; 64], len: usize) -
     }
     let words = got.words;
     let states = states_of(d, words);
-    let h1 = mixed(mixed(h, 0), words.count as u64);
-    let h2 = mixed(h1, states.count as u64);
-    let h3 = mixed(h2, greatest_chain(d, words, states));
-    let h4 = mixed_table(h3, d, words, states);
-    let h5 = mixed_states(h4, d, states, text, len);
-    mixed_text(h5, d, words, text, len)
+    let h1 = mixed_table(mixed(h, 0), d, words, states, 8);
+    let h2 = mixed_table(h1, d, words, states, 7);
+    let h3 = mixed_table(h2, d, words, states, 8);
+    let h4 = mixed_states(h3, d, states, text, len);
+    mixed_text(h4, d, words, text, len)
 }
 
 fn next_case(x: &mut usize, h: u64) -> u64 {

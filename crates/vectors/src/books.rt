@@ -33,9 +33,9 @@ fn block_line(name: &[u8], book: &[u8], n: usize) {
     print(b"]\n");
 }
 
-// The verdict on block n under a table of 70 numbers.
+// The verdict on block n under a table of 80 numbers.
 fn verdict_line(name: &[u8], dict: &[u8], book: &[u8], n: usize) {
-    let mut table = [7u16; 70];
+    let mut table = [7u16; 80];
     let mut states = [7u16; 7];
     let mut counts = [7u64; 7];
     build(dict, &mut table);

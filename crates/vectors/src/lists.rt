@@ -68,7 +68,7 @@ fn next_line(
 
 // The only reading of aaaaab has three words.
 pub fn print_reading_room(dict: &[u8]) {
-    let mut table = [7u16; 70];
+    let mut table = [7u16; 80];
     let mut states = [7u16; 7];
     let mut counts = [7u64; 7];
     let mut room_2 = [7u16; 2];
@@ -101,7 +101,7 @@ pub fn print_reading_room(dict: &[u8]) {
 
 // Next, for the words a and aa and the scanned text aaa.
 fn next_of_aaa(name: &[u8], dict: &[u8], reading: &mut [u16], before: &[u16], given: usize) {
-    let mut table = [7u16; 21];
+    let mut table = [7u16; 24];
     let mut states = [7u16; 4];
     let mut counts = [7u64; 4];
     build(dict, &mut table);
@@ -121,7 +121,7 @@ fn next_of_aaa(name: &[u8], dict: &[u8], reading: &mut [u16], before: &[u16], gi
 
 // The words a and aa: aaa has readings of two, two and three words.
 pub fn print_list(dict: &[u8]) {
-    let mut table = [7u16; 21];
+    let mut table = [7u16; 24];
     let mut states = [7u16; 4];
     let mut counts = [7u64; 4];
     let mut reading = [7u16; 2];
@@ -150,7 +150,7 @@ pub fn print_list_end(dict: &[u8]) {
 
 // Columns that no scan wrote.
 pub fn print_unscanned(dict: &[u8]) {
-    let mut table = [7u16; 21];
+    let mut table = [7u16; 24];
     let states = [7u16; 4];
     let counts = [7u64; 4];
     let mut reading = [7u16; 2];
@@ -180,7 +180,7 @@ pub fn print_unscanned(dict: &[u8]) {
 }
 
 pub fn print_no_reading(dict: &[u8]) {
-    let mut table = [7u16; 21];
+    let mut table = [7u16; 24];
     let mut states = [7u16; 2];
     let mut counts = [7u64; 2];
     let mut reading = [7u16; 2];

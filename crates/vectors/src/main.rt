@@ -1,11 +1,11 @@
-// Runs the examples, the limits from both sides and every refusal of document 01 through the
-// library's public calls. A line is a vector's name and what the call told: numbers, `end`, or
+// Runs the examples, the limits from both sides and every refusal of each public call. A line is a vector's name and what the call told: numbers, `end`, or
 // `refused` with number and place. After a refusal stands whether all lent memory was kept.
 mod books;
 mod builds;
 mod lines;
 mod lists;
 mod making;
+mod moves;
 mod scans;
 
 use books::print_bad_books;
@@ -22,6 +22,9 @@ use lists::print_list_end;
 use lists::print_no_reading;
 use lists::print_reading_room;
 use lists::print_unscanned;
+use moves::print_moves;
+use moves::print_narrow_refusals;
+use moves::print_widen_refusals;
 use scans::print_column_room;
 use scans::print_counts_at_cap;
 use scans::print_farthest;
@@ -35,6 +38,9 @@ fn print_vectors(set_e: &[u8], book: &[u8], runs: &[u8]) {
     print_letters_in_all();
     print_number_of_words();
     print_bad_records();
+    print_moves(set_e);
+    print_widen_refusals(set_e);
+    print_narrow_refusals(set_e);
     print_counts_at_cap(runs);
     print_farthest(b"WD\x01aWD\x03abc");
     print_text_lengths(set_e);

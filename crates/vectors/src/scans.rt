@@ -62,7 +62,7 @@ pub fn scan_line(
 // The words a and aa. The count of 93 letters passes 64 bits, though one letter b more has no
 // reading.
 pub fn print_counts_at_cap(runs: &[u8]) {
-    let mut table = [7u16; 21];
+    let mut table = [7u16; 24];
     let mut states = [7u16; 95];
     let mut counts = [7u64; 95];
     let t92 = [97u8; 92];
@@ -78,7 +78,7 @@ pub fn print_counts_at_cap(runs: &[u8]) {
 // With the words a and abc: the last reading of the texts ab and abd ends where abc has begun, and
 // the one breaks off in that word, the other goes astray in it.
 pub fn print_farthest(nested: &[u8]) {
-    let mut table = [7u16; 28];
+    let mut table = [7u16; 32];
     let mut states = [7u16; 4];
     let mut counts = [7u64; 4];
     build(nested, &mut table);
@@ -87,7 +87,7 @@ pub fn print_farthest(nested: &[u8]) {
 }
 
 pub fn print_text_lengths(set_e: &[u8]) {
-    let mut table = [7u16; 70];
+    let mut table = [7u16; 80];
     let mut states = [7u16; 4097];
     let mut counts = [7u64; 4097];
     let mut more_states = [7u16; 4098];
@@ -107,12 +107,12 @@ pub fn print_text_lengths(set_e: &[u8]) {
 }
 
 pub fn print_table_refusals(set_e: &[u8]) {
-    let mut table = [7u16; 70];
-    let short = [7u16; 69];
+    let mut table = [7u16; 80];
+    let short = [7u16; 79];
     let mut states = [7u16; 7];
     let mut counts = [7u64; 7];
     build(set_e, &mut table);
-    table[69] = 8;
+    table[79] = 8;
     scan_line(
         b"scan-word-twice",
         b"WD\x01aWD\x01a",
@@ -122,7 +122,7 @@ pub fn print_table_refusals(set_e: &[u8]) {
         &mut counts,
     );
     scan_line(
-        b"scan-table-69",
+        b"scan-table-79",
         set_e,
         &short,
         b"aaaaab",
@@ -140,7 +140,7 @@ pub fn print_table_refusals(set_e: &[u8]) {
 }
 
 pub fn print_column_room(set_e: &[u8]) {
-    let mut table = [7u16; 70];
+    let mut table = [7u16; 80];
     let mut s6 = [7u16; 6];
     let mut s7 = [7u16; 7];
     let mut c6 = [7u64; 6];

@@ -1,9 +1,16 @@
--- `automaton::borders::settle`: a child that has its border is passed; any other gets border and link, and stands last in the queue.
+-- `automaton::borders::settle`: a child that has its border is passed; any other gets border, link and chain length, and stands last
+-- in the queue.
 use mathlib.Core.Path.{sym, _∙_}
+use mathlib.Core.List.{List}
+use Prim.Native.Nat.{ℕ, _≤_}
 use native.Mathlib.Omega.{arith}
 use borrow.Author.Needs.{needs}
-use Rattle.automaton.proofs.Queue.{bordered, child-inside, child-row, child-byte, passes, border-small, border-linked, both-small, room, settles}
-use Rattle.automaton.proofs.Known.{still-row}
+use denote.Ref.{now}
+use Rattle.meaning.specs.Numbers.{absent}
+use Rattle.meaning.specs.Table.{borderField, linkField}
+use Rattle.automaton.specs.Layout.{setField, HasRow}
+use Rattle.automaton.proofs.Queue.{bordered, child-inside, child-row, child-byte, passes, border-linked, border-counted, all-small, room, settles}
+use Rattle.automaton.proofs.Known.{row-stays}
 use Rattle.automaton.proofs.borders.settle.Statement.{statement}
 use Rattle.automaton.proofs.borders.settle.Tie as tie
 
@@ -30,27 +37,58 @@ first-word-requires c κs =
     let pre = read .before .before .before .before .before .before .pre in
     (pre .0, pre .1, border-linked (pre .2) (read .letter .ensures .is) (c .before .child-border .ensures _ _ (bordered (pre .2 .taking))))
 
-set-border-requires : tie.Need-set-border-requires
-set-border-requires c κs =
+count-chain-requires : tie.Need-count-chain-requires
+count-chain-requires c κs =
     let found = c .before .before .before in
-    let σ = found .before .before .before .before .before .before .before .pre .2 in
-    let small = border-small σ (found .before .letter .ensures .is) (found .child-border .ensures _ _ (bordered (σ .taking))) in
-    (child-row σ, omega arith)
+    let pre = found .before .before .before .before .before .before .before .pre in
+    (pre .0, pre .1, border-counted (pre .2) (found .before .letter .ensures .is) (found .child-border .ensures _ _ (bordered (pre .2 .taking))))
+
+-- the numbers that are written for the child are found
+abbrev entry : tie.After-count-chain → tie.Start
+entry c = c .before .before .before .before .before .before .before .before .before .before .before
+
+-- .. in 16 bits
+small : (c : tie.After-count-chain) → let found = c .before .before .before .before in
+    (found .child-border .result ≤ absent) × (c .before .before .first-word .result ≤ absent) × (c .count-chain .result ≤ absent)
+small c =
+    let σ = entry c .pre .2 in
+    let found = c .before .before .before .before in
+    let read = found .before .letter .ensures .is in
+    let is = found .child-border .ensures _ _ (bordered (σ .taking)) in
+    all-small σ read is (c .before .before .first-word .ensures _ _ (border-linked σ read is)) (c .count-chain .ensures _ _ (border-counted σ read is))
+
+-- .. and its row is there, when the first of them is written
+abbrev first-written : tie.After-count-chain → List ℕ
+first-written c =
+    let a = entry c .args in
+    setField (now (a .table)) (a .c) borderField (c .before .before .before .before .child-border .result)
+
+row-after : (c : tie.After-count-chain) → HasRow (first-written c) (entry c .args .c)
+row-after c =
+    let a = entry c .args in
+    row-stays (now (a .table)) (a .c) borderField (c .before .before .before .before .child-border .result) (a .c) (child-row (entry c .pre .2))
+
+set-border-requires : tie.Need-set-border-requires
+set-border-requires c κs = (child-row (entry (c .before) .pre .2), small (c .before) .0)
 
 set-link-requires : tie.Need-set-link-requires
 set-link-requires c κs =
-    let linked = c .before .before .before .before .before in
-    let found = linked .before .before in
-    let σ = found .before .before .before .before .before .before .before .pre .2 in
-    let read = found .before .letter .ensures .is in
-    let is = found .child-border .ensures _ _ (bordered (σ .taking)) in
-    let (border, link) = both-small σ read is (linked .first-word .ensures _ _ (border-linked σ read is)) in
-    (rw (c .before .before .before .set-border .ensures) (still-row (σ .taking .queued .tree) (child-inside σ) _), omega arith)
+    let counted = c .before .before .before .before .before in
+    (rw (c .before .before .before .set-border .ensures) (row-after counted), small counted .1)
+
+set-chain-length-requires : tie.Need-set-chain-length-requires
+set-chain-length-requires c κs =
+    let bordered = c .before .before .before .before .before .before .before in
+    let counted = bordered .before .before in
+    let child = entry counted .args .c in (
+      rw (c .before .before .before .set-link .ensures, bordered .set-border .ensures)
+          (row-stays (first-written counted) child linkField (counted .before .before .first-word .result) child (row-after counted)),
+      small counted .2,
+    )
 
 cast-queue : tie.Need-cast-queue
 cast-queue c =
-    let found = c .before .before .before .before .before .before .before .before .before .before in
-    let σ = found .before .before .before .before .before .before .before .pre .2 in
+    let σ = entry (c .before .before .before .before .before .before .before .before .before .before .before .before) .pre .2 in
     omega (arith, child-inside σ, σ .taking .queued .tree .states .few)
 
 mul-queue : tie.Need-mul-queue
@@ -59,13 +97,15 @@ mul-queue c = search needs
 -- where a state joins the queue, there is room
 element-write-queue : tie.Need-element-write-queue
 element-write-queue c =
-    let linked = c .before .before .before .before .before .before .before .before in
+    let counted = c .before .before .before .before .before .before .before .before .before .before .before .before in
+    let linked = counted .before .before in
     let found = linked .before .before in
     let chosen = found .before .before .before in
-    let σ = chosen .before .before .before .before .pre .2 in
+    let σ = entry counted .pre .2 in
     let read = found .before .letter .ensures .is in
     let is = found .child-border .ensures _ _ (bordered (σ .taking)) in
-    room σ read is (linked .first-word .ensures _ _ (border-linked σ read is)) (sym (chosen .before .border .ensures .is) ∙ chosen .if1 .left)
+    room σ read is (linked .first-word .ensures _ _ (border-linked σ read is)) (counted .count-chain .ensures _ _ (border-counted σ read is))
+    (sym (chosen .before .border .ensures .is) ∙ chosen .if1 .left)
 
 add-result : tie.Need-add-result
 add-result c = search needs
@@ -75,13 +115,19 @@ same-length-2 c = search needs
 
 returns-2 : tie.Need-returns-2
 returns-2 c X S σ =
-    let linked = c .before .before .before .before .before .before .before .before in
+    let counted = c .before .before .before .before .before .before .before .before .before .before .before .before in
+    let linked = counted .before .before in
     let found = linked .before .before in
     let chosen = found .before .before .before in
     let read = found .before .letter .ensures .is in
     let is = found .child-border .ensures X S (bordered (σ .taking)) in
-    rw (c .before .before .set-link .ensures, c .before .before .before .before .before .before .set-border .ensures)
-    (settles σ read is (linked .first-word .ensures X S (border-linked σ read is)) (sym (chosen .before .border .ensures .is) ∙ chosen .if1 .left))
+    rw (
+      c .before .before .set-chain-length .ensures,
+      c .before .before .before .before .before .before .set-link .ensures,
+      c .before .before .before .before .before .before .before .before .before .before .set-border .ensures,
+    )
+    (settles σ read is (linked .first-word .ensures X S (border-linked σ read is)) (counted .count-chain .ensures X S (border-counted σ read is))
+    (sym (chosen .before .border .ensures .is) ∙ chosen .if1 .left))
 
 pub settle-spec : {M : Type 1} → statement M
 settle-spec =
@@ -93,8 +139,10 @@ settle-spec =
     letter-requires
     child-border-requires
     first-word-requires
+    count-chain-requires
     set-border-requires
     set-link-requires
+    set-chain-length-requires
     cast-queue
     mul-queue
     element-write-queue

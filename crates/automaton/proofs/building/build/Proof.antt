@@ -1,55 +1,45 @@
--- `automaton::building::build`: the tree, then the rest of its rows, and the longest chain.
+-- `automaton::building::build`: by the form.
 use borrow.Author.Needs.{needs}
-use mathlib.Core.List.{List}
-use Prim.Native.Nat.{ℕ}
-use lib.ListN.{replicate, getD-replicate}
-use Rattle.meaning.specs.Words.{Words}
-use Rattle.meaning.specs.Numbers.{letterValues, absent}
-use Rattle.automaton.specs.Building.{Buildable, Plantable}
-use Rattle.automaton.proofs.Finishing.{all-planted, finished}
 use Rattle.automaton.proofs.building.build.Statement.{statement}
 use Rattle.automaton.proofs.building.build.Tie as tie
 
--- the index is empty at first
-plantable : {X : Words} {m b t : List ℕ} {words : ℕ} → Buildable X m b words t → Plantable X m b words t (replicate letterValues absent)
-plantable β = record { buildable = β; empty = λ a l. getD-replicate letterValues a absent 0 l }
+enum-told : tie.Need-enum-told
+enum-told c = search needs
 
-plant-requires : tie.Need-plant-requires
-plant-requires c κs =
-    let pre = c .before .before .before .before .before .pre in
-    (pre .0, plantable (pre .1))
+build-wide-requires : tie.Need-build-wide-requires
+build-wide-requires c κs = let (X, β) = c .before .before .before .before .before .before .pre in (X, rw (c .before .enum-told .given .1) at β)
 
-complete-rows-requires : tie.Need-complete-rows-requires
-complete-rows-requires c κs =
-    let planted = c .before .before .before .before in
-    let pre = planted .before .before .before .before .before .before .pre in
-    (pre .0, _, all-planted (planted .plant .ensures _ (plantable (pre .1))))
+enum-told-2 : tie.Need-enum-told-2
+enum-told-2 c = search needs
 
-longest-chain-requires : tie.Need-longest-chain-requires
-longest-chain-requires c κs =
-    let completed = c .before .before .before in
-    let planted = completed .before .before .before .before .before in
-    let pre = planted .before .before .before .before .before .before .pre in
-    let π = planted .plant .ensures _ (plantable (pre .1)) in
-    (pre .0, _, completed .complete-rows .ensures _ _ (all-planted π) .whole, π .growing .count)
+build-narrow-requires : tie.Need-build-narrow-requires
+build-narrow-requires c κs = let (X, β) = c .before .before .before .before .before .before .pre in (X, rw (c .before .enum-told2 .given .1) at β)
 
 same-length : tie.Need-same-length
 same-length c = search needs
 
 returns : tie.Need-returns
 returns c X β =
-    let completed = c .before .before .before .before in
-    let planted = completed .before .before .before .before .before in
-    let π = planted .plant .ensures X (plantable β) in
-    let κ = completed .complete-rows .ensures X _ (all-planted π) in
-    finished π (planted .plant .kept .1 .1 .1 .0) (completed .complete-rows .kept .0) κ (c .longest-chain .ensures X _ (κ .whole) (π .growing .count))
+    let e = c .before .before .before .before .enum-told .given .1 in
+    rw e (c .before .before .build-wide .ensures X (rw e at β))
+
+same-length-2 : tie.Need-same-length-2
+same-length-2 c = search needs
+
+returns-2 : tie.Need-returns-2
+returns-2 c X β =
+    let e = c .before .before .before .before .enum-told2 .given .1 in
+    rw e (c .before .before .build-narrow .ensures X (rw e at β))
 
 pub build-spec : {M : Type 1} → statement M
 build-spec =
     tie.close
     (tie.spec
-    plant-requires
-    complete-rows-requires
-    longest-chain-requires
+    enum-told
+    build-wide-requires
+    enum-told-2
+    build-narrow-requires
     same-length
-    returns)
+    returns
+    same-length-2
+    returns-2)

@@ -1,11 +1,12 @@
 -- `automaton::chains::longest_chain`: at the loop's head the longest chain of all is r or that of a state from s on.
-use mathlib.Core.Path.{_≡_}
+use mathlib.Core.Path.{_≡_, _∙_}
 use mathlib.Core.Logic.{⊎-elim}
 use Prim.Native.Nat.{_-_, _<_}
 use native.Mathlib.Omega.{arith}
 use lib.ListN.{length}
 use Rattle.meaning.specs.Words.{Words}
 use Rattle.automaton.specs.Tree.{Whole}
+use Rattle.automaton.proofs.Walk.{state-row}
 use Rattle.automaton.proofs.Chain.{LongestTo, longest-start, longest-on, longest-end}
 use Rattle.automaton.proofs.chains.longest_chain.Statement.{statement}
 use Rattle.automaton.proofs.chains.longest_chain.Tie as tie
@@ -22,7 +23,7 @@ loop-holds c X S ω e = longest-start X S
 chain-length-requires : tie.Need-chain-length-requires Inv-loop μ-loop
 chain-length-requires c κs =
     let (X, S, ω, e) = c .before .before .before .pre in
-    (X, S, ω, omega (arith, e, c .loop-test .taken))
+    state-row (ω .tree) (omega (arith, e, c .loop-test .taken))
 
 add-s : tie.Need-add-s Inv-loop μ-loop
 add-s c = omega arith
@@ -34,7 +35,7 @@ loop-again : tie.Need-loop-again Inv-loop μ-loop
 loop-again c X S ω e =
     let turn = c .before .before in
     let l : turn .before .loop .s < length S = omega (arith, e, turn .loop-test .taken) in
-    let k = c .before .chain-length .ensures X S ω l in
+    let k = c .before .chain-length .ensures .is ∙ ω .chains _ l in
     longest-on (turn .before .loop .inv X S ω e) l
     (⊎-elim (λ w. omega (arith, w .0 .taken, w .1)) (λ w. omega (arith, w .0 .left, w .1)) (c .if1 .came))
 

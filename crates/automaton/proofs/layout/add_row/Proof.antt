@@ -1,4 +1,4 @@
--- `automaton::layout::add_row`: seven stores are a row.
+-- `automaton::layout::add_row`: eight stores are a row.
 use denote.Ref.{now}
 use borrow.Author.Needs.{needs}
 use Rattle.automaton.proofs.Cells.{row-written}
@@ -26,20 +26,24 @@ set-field-requires-6 c κs = search needs
 set-field-requires-7 : tie.Need-set-field-requires-7
 set-field-requires-7 c κs = search needs
 
+set-field-requires-8 : tie.Need-set-field-requires-8
+set-field-requires-8 c κs = search needs
+
 same-length : tie.Need-same-length
 same-length c = search needs
 
 returns : tie.Need-returns
 returns c =
-    let x = c .before .before .before .before .before .before .before .before .before .before .before .before .before .before .before .before .before .before .before .before .before .before .before .before .before .before .before .before .before .args in
+    let x = c .before .before .before .before .before .before .before .before .before .before .before .before .before .before .before .before .before .before .before .before .before .before .before .before .before .before .before .before .before .before .before .before .before .args in
     row-written (now (x .table)) (x .n) (x .a) (x .next) (x .depth)
-    (c .before .before .before .before .before .before .before .before .before .before .before .before .before .before .before .before .before .before .before .before .before .before .before .before .before .before .set-field .ensures)
-    (c .before .before .before .before .before .before .before .before .before .before .before .before .before .before .before .before .before .before .before .before .before .before .set-field2 .ensures)
-    (c .before .before .before .before .before .before .before .before .before .before .before .before .before .before .before .before .before .before .set-field3 .ensures)
-    (c .before .before .before .before .before .before .before .before .before .before .before .before .before .before .set-field4 .ensures)
-    (c .before .before .before .before .before .before .before .before .before .before .set-field5 .ensures)
-    (c .before .before .before .before .before .before .set-field6 .ensures)
-    (c .before .before .set-field7 .ensures)
+    (c .before .before .before .before .before .before .before .before .before .before .before .before .before .before .before .before .before .before .before .before .before .before .before .before .before .before .before .before .before .before .set-field .ensures)
+    (c .before .before .before .before .before .before .before .before .before .before .before .before .before .before .before .before .before .before .before .before .before .before .before .before .before .before .set-field2 .ensures)
+    (c .before .before .before .before .before .before .before .before .before .before .before .before .before .before .before .before .before .before .before .before .before .before .set-field3 .ensures)
+    (c .before .before .before .before .before .before .before .before .before .before .before .before .before .before .before .before .before .before .set-field4 .ensures)
+    (c .before .before .before .before .before .before .before .before .before .before .before .before .before .before .set-field5 .ensures)
+    (c .before .before .before .before .before .before .before .before .before .before .set-field6 .ensures)
+    (c .before .before .before .before .before .before .set-field7 .ensures)
+    (c .before .before .set-field8 .ensures)
 
 pub add-row-spec : {M : Type 1} → statement M
 add-row-spec =
@@ -52,5 +56,6 @@ add-row-spec =
     set-field-requires-5
     set-field-requires-6
     set-field-requires-7
+    set-field-requires-8
     same-length
     returns)

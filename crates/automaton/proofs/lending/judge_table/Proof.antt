@@ -1,8 +1,8 @@
 -- `automaton::lending::judge_table`: the rows made in the local array decide.
 use native.Mathlib.Omega.{arith}
-use borrow.Author.Needs.{needs}
 use denote.Ref.{now}
-use Rattle.automaton.proofs.Lent.{few, made-room, judged-short, judged-right, judged-other, roomy}
+use Rattle.automaton.proofs.Lent.{form-small, roomy, end-is, made-room, judged-short, judged-right, judged-other}
+use borrow.Author.Needs.{needs}
 use Rattle.automaton.proofs.lending.judge_table.Statement.{statement}
 use Rattle.automaton.proofs.lending.judge_table.Tie as tie
 
@@ -10,32 +10,48 @@ slice-aggregate-build : tie.Need-slice-aggregate-build
 slice-aggregate-build c = search needs
 
 build-requires : tie.Need-build-requires
-build-requires c κs = let pre = c .before .before .before .before .pre in (pre .0, roomy (pre .1))
+build-requires c κs = let s = c .before .before .before .before in (s .pre .0, roomy (s .args .form) (s .pre .1))
 
-mul-if1 : tie.Need-mul-if1
-mul-if1 c =
-    let α = c .before .before .before .before .before .before .pre .1 in
-    omega (arith, few α (c .before .build .ensures _ (roomy α)))
+row-width-requires : tie.Need-row-width-requires
+row-width-requires c κs = search needs
+
+mul-end : tie.Need-mul-end
+mul-end c =
+    let made = c .before .before .before in
+    let s = made .before .before .before .before .before in
+    let α = s .pre .1 in
+    omega (arith, end-is (made .build .ensures _ (roomy (s .args .form) α)) (c .before .row-width .ensures), form-small (s .args .form) (α .allowed))
 
 returns : tie.Need-returns
 returns c X α =
-    judged-short α (c .before .before .build .ensures X (roomy α)) (now (c .before .before .before .before .before .before .before .args .lent)) (c .if1 .taken)
+    let made = c .before .before .before .before in
+    let s = made .before .before .before .before .before in
+    let β = made .build .ensures X (roomy (s .args .form) α) in
+    judged-short β (end-is β (c .before .before .row-width .ensures)) (now (s .args .lent)) (c .if1 .taken)
 
-slice-aggregate-same-rows : tie.Need-slice-aggregate-same-rows
-slice-aggregate-same-rows c = search needs
+slice-aggregate-same-numbers : tie.Need-slice-aggregate-same-numbers
+slice-aggregate-same-numbers c = search needs
 
-same-rows-requires : tie.Need-same-rows-requires
-same-rows-requires c κs =
-    let α = c .before .before .before .before .before .before .before .before .pre .1 in
-    (c .before .if1 .left, made-room α (c .before .before .before .build .ensures _ (roomy α)))
+same-numbers-requires : tie.Need-same-numbers-requires
+same-numbers-requires c κs =
+    let made = c .before .before .before .before .before in
+    let s = made .before .before .before .before .before in
+    let β = made .build .ensures _ (roomy (s .args .form) (s .pre .1)) in
+    (c .before .if1 .left, made-room β (end-is β (c .before .before .before .row-width .ensures)))
 
 returns-2 : tie.Need-returns-2
 returns-2 c X α =
-    judged-right α (c .before .before .before .before .before .build .ensures X (roomy α)) _ (c .before .before .before .if1 .left) (c .before .same-rows .ensures) (c .if2 .taken)
+    let made = c .before .before .before .before .before .before .before in
+    let s = made .before .before .before .before .before in
+    let β = made .build .ensures X (roomy (s .args .form) α) in
+    judged-right β (end-is β (c .before .before .before .before .before .row-width .ensures)) (now (s .args .lent)) (c .before .before .before .if1 .left) (c .before .same-numbers .ensures) (c .if2 .taken)
 
 returns-3 : tie.Need-returns-3
 returns-3 c X α =
-    judged-other α (c .before .before .before .before .before .build .ensures X (roomy α)) _ (c .before .before .before .if1 .left) (c .before .same-rows .ensures) (c .if2 .left)
+    let made = c .before .before .before .before .before .before .before in
+    let s = made .before .before .before .before .before in
+    let β = made .build .ensures X (roomy (s .args .form) α) in
+    judged-other β (end-is β (c .before .before .before .before .before .row-width .ensures)) (now (s .args .lent)) (c .before .before .before .if1 .left) (c .before .same-numbers .ensures) (c .if2 .left)
 
 pub judge-table-spec : {M : Type 1} → statement M
 judge-table-spec =
@@ -43,9 +59,10 @@ judge-table-spec =
     (tie.spec
     slice-aggregate-build
     build-requires
-    mul-if1
+    row-width-requires
+    mul-end
     returns
-    slice-aggregate-same-rows
-    same-rows-requires
+    slice-aggregate-same-numbers
+    same-numbers-requires
     returns-2
     returns-3)

@@ -1,7 +1,8 @@
 -- `automaton::lending::write_table`: the rows made in the local array are copied, if they fit.
 use native.Mathlib.Omega.{arith}
+use denote.Ref.{now}
+use Rattle.automaton.proofs.Lent.{form-small, roomy, end-is, made-room, wrote-short, wrote-rows}
 use borrow.Author.Needs.{needs}
-use Rattle.automaton.proofs.Lent.{few, made-room, wrote-short, wrote-rows, roomy}
 use Rattle.automaton.proofs.lending.write_table.Statement.{statement}
 use Rattle.automaton.proofs.lending.write_table.Tie as tie
 
@@ -9,30 +10,45 @@ slice-aggregate-build : tie.Need-slice-aggregate-build
 slice-aggregate-build c = search needs
 
 build-requires : tie.Need-build-requires
-build-requires c κs = let pre = c .before .before .before .before .pre in (pre .0, roomy (pre .1))
+build-requires c κs = let s = c .before .before .before .before in (s .pre .0, roomy (s .args .form) (s .pre .1))
 
-mul-if1 : tie.Need-mul-if1
-mul-if1 c =
-    let α = c .before .before .before .before .before .before .pre .1 in
-    omega (arith, few α (c .before .build .ensures _ (roomy α)))
+row-width-requires : tie.Need-row-width-requires
+row-width-requires c κs = search needs
+
+mul-end : tie.Need-mul-end
+mul-end c =
+    let made = c .before .before in
+    let s = made .before .before .before .before .before in
+    let α = s .pre .1 in
+    omega (arith, end-is (made .build .ensures _ (roomy (s .args .form) α)) (c .row-width .ensures), form-small (s .args .form) (α .allowed))
 
 returns : tie.Need-returns
-returns c X α = wrote-short α (c .before .before .build .ensures X (roomy α)) _ (c .if1 .taken)
+returns c X α =
+    let made = c .before .before .before in
+    let s = made .before .before .before .before .before in
+    let β = made .build .ensures X (roomy (s .args .form) α) in
+    wrote-short β (end-is β (c .before .row-width .ensures)) (now (s .args .lent)) (c .if1 .taken)
 
-slice-aggregate-copy-rows : tie.Need-slice-aggregate-copy-rows
-slice-aggregate-copy-rows c = search needs
+slice-aggregate-copy-numbers : tie.Need-slice-aggregate-copy-numbers
+slice-aggregate-copy-numbers c = search needs
 
-copy-rows-requires : tie.Need-copy-rows-requires
-copy-rows-requires c κs =
-    let α = c .before .before .before .before .before .before .before .before .before .pre .1 in
-    (c .before .before .if1 .left, made-room α (c .before .before .before .before .build .ensures _ (roomy α)))
+copy-numbers-requires : tie.Need-copy-numbers-requires
+copy-numbers-requires c κs =
+    let made = c .before .before .before .before .before in
+    let s = made .before .before .before .before .before in
+    let β = made .build .ensures _ (roomy (s .args .form) (s .pre .1)) in
+    (c .before .before .if1 .left, made-room β (end-is β (c .before .before .before .row-width .ensures)))
 
 same-length : tie.Need-same-length
 same-length c = search needs
 
 returns-2 : tie.Need-returns-2
 returns-2 c X α =
-    wrote-rows α (c .before .before .before .before .before .before .before .build .ensures X (roomy α)) _ (c .before .before .before .before .before .if1 .left) (c .before .before .copy-rows .ensures)
+    let chosen = c .before .before .before .before .before in
+    let made = chosen .before .before .before in
+    let s = made .before .before .before .before .before in
+    let β = made .build .ensures X (roomy (s .args .form) α) in
+    wrote-rows β (end-is β (chosen .before .row-width .ensures)) (now (s .args .lent)) (chosen .if1 .left) (c .before .before .copy-numbers .ensures)
 
 pub write-table-spec : {M : Type 1} → statement M
 write-table-spec =
@@ -40,9 +56,10 @@ write-table-spec =
     (tie.spec
     slice-aggregate-build
     build-requires
-    mul-if1
+    row-width-requires
+    mul-end
     returns
-    slice-aggregate-copy-rows
-    copy-rows-requires
+    slice-aggregate-copy-numbers
+    copy-numbers-requires
     same-length
     returns-2)

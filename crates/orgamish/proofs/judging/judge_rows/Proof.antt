@@ -7,6 +7,7 @@ use Rattle.records.specs.Run.{dictionary}
 use Rattle.records.specs.Told.{dictionaryTold}
 use Rattle.records.proofs.Determined.{RanAs, told-ran, told-refused}
 use Rattle.automaton.specs.Building.{Accepted}
+use Rattle.automaton.specs.Forms.{tableIn}
 use Rattle.automaton.specs.Lending.{judged}
 use Rattle.automaton.specs.declared.lending.Judged.{Judged}
 use Rattle.orgamish.specs.Order.{rowsNumber, tableRefusal}
@@ -39,12 +40,12 @@ abbrev rows : tie.After-judge-table → tie.After-known-told2
 rows c = c .before
 
 judges : (c : tie.After-judge-table) (j : Judged) → let a = entry (checked (rows c)) .args in
-    j ≡ judged (found (rows c) .X) (now (a .table))
-    → passed (rowsNumber j) ≡ verdict (λ X. tableRefusal X (now (a .table))) (dictionary (now (a .map)) (now (a .dict)))
+    j ≡ judged (tableIn (a .form) (found (rows c) .X)) (now (a .table))
+    → passed (rowsNumber j) ≡ verdict (λ X. tableRefusal (tableIn (a .form) X) (now (a .table))) (dictionary (now (a .map)) (now (a .dict)))
 judges c j e =
     let a = entry (checked (rows c)) .args in
     ap (λ (k : Judged). passed (rowsNumber k)) e
-    ∙ ap (verdict (λ X. tableRefusal X (now (a .table)))) (sym (found (rows c) .is))
+    ∙ ap (verdict (λ X. tableRefusal (tableIn (a .form) X) (now (a .table)))) (sym (found (rows c) .is))
 
 check-dictionary-requires : tie.Need-check-dictionary-requires
 check-dictionary-requires c κs = search needs
@@ -75,7 +76,7 @@ returns : tie.Need-returns
 returns c =
     let d = c .before .before .before in
     let a = entry d .args in
-    ap (verdict (λ X. tableRefusal X (now (a .table))))
+    ap (verdict (λ X. tableRefusal (tableIn (a .form) X) (now (a .table))))
     (sym (told-refused (dictionary (now (a .map)) (now (a .dict))) (ap dictionaryTold (sym (c .before .number .given .1)) ∙ d .check-dictionary .ensures)))
 
 returns-2 : tie.Need-returns-2

@@ -7,6 +7,7 @@ use borrow.Author.Needs.{needs}
 use denote.Ref.{now}
 use lib.ListN.{length}
 use Rattle.meaning.specs.Words.{Word, Words}
+use Rattle.meaning.specs.Table.{table}
 use Rattle.records.specs.Letters.{mapped}
 use Rattle.records.specs.Run.{Run, dictionary}
 use Rattle.columns.proofs.Entry.{mapped-size}
@@ -20,7 +21,7 @@ abbrev entry : tie.After-judge-rows → tie.Start
 entry c = c .before .before .before .before .before .before .before
 
 abbrev rows : tie.Start → Words → ℕ
-rows s X = tableRefusal X (now (s .args .table))
+rows s X = tableRefusal (table X) (now (s .args .table))
 
 abbrev words : tie.Start → Run
 words s = dictionary (now (s .args .map)) (now (s .args .dict))

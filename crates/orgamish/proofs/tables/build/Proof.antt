@@ -11,11 +11,11 @@ use Rattle.orgamish.proofs.tables.build.Tie as tie
 identity-requires : tie.Need-identity-requires
 identity-requires c κs = search needs
 
-slice-aggregate-build-by : tie.Need-slice-aggregate-build-by
-slice-aggregate-build-by c = search needs
+slice-aggregate-build-in : tie.Need-slice-aggregate-build-in
+slice-aggregate-build-in c = search needs
 
-build-by-requires : tie.Need-build-by-requires
-build-by-requires c κs = search needs
+build-in-requires : tie.Need-build-in-requires
+build-in-requires c κs = search needs
 
 same-length : tie.Need-same-length
 same-length c = search needs
@@ -25,7 +25,7 @@ returns c =
     let d = c .before .before in
     let i = d .before .before .before in
     let a = i .before .before .before .args in
-    let e = d .build-by .ensures in (
+    let e = d .build-in .ensures in (
       e .0 ∙ ap (λ (m : List ℕ). buildTells m (now (a .dict)) (now (a .table))) (i .identity .ensures),
       e .1 ∙ ap (λ (m : List ℕ). buildLeaves m (now (a .dict)) (now (a .table))) (i .identity .ensures),
     )
@@ -33,4 +33,4 @@ returns c =
 pub build-spec : {M : Type 1} → statement M
 build-spec =
     tie.close
-    (tie.spec identity-requires slice-aggregate-build-by build-by-requires same-length returns)
+    (tie.spec identity-requires slice-aggregate-build-in build-in-requires same-length returns)

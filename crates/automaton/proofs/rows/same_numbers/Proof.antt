@@ -1,22 +1,18 @@
--- `automaton::rows::same_rows`: at the loop's head the first i numbers are the same.
+-- `automaton::rows::same_numbers`: at the loop's head the first i numbers are the same.
 use mathlib.Core.Path.{refl}
-use Prim.Native.Nat.{_*_, _-_, _≤_}
+use Prim.Native.Nat.{_-_, _≤_}
 use native.Mathlib.Omega.{arith}
 use denote.Ref.{now}
 use borrow.Author.Needs.{needs}
-use Rattle.meaning.specs.Table.{width}
 use Rattle.automaton.proofs.Copied.{AlikeTo, alike-on, alike-true, alike-false}
-use Rattle.automaton.proofs.rows.same_rows.Statement.{statement}
-use Rattle.automaton.proofs.rows.same_rows.Tie as tie
+use Rattle.automaton.proofs.rows.same_numbers.Statement.{statement}
+use Rattle.automaton.proofs.rows.same_numbers.Tie as tie
 
 abbrev Inv-loop : tie.InvT-loop
-Inv-loop lent table n end i₀ i = (i ≤ end) × AlikeTo lent table i
+Inv-loop lent table end i₀ i = (i ≤ end) × AlikeTo lent table i
 
 abbrev μ-loop : tie.MeasureT-loop
-μ-loop lent table n end i₀ i = end - i
-
-mul-end : tie.Need-mul-end Inv-loop μ-loop
-mul-end c = search needs
+μ-loop lent table end i₀ i = end - i
 
 loop-holds : tie.Need-loop-holds Inv-loop μ-loop
 loop-holds c = (omega arith, record { is = refl })
@@ -37,7 +33,7 @@ returns : tie.Need-returns Inv-loop μ-loop
 returns c =
     let turn = c .before .before .before in
     let x = turn .before .before .args in
-    alike-false (now (x .lent)) (now (x .table)) (turn .before .loop .i) (width * x .n) (turn .loop-test .taken) (c .if1 .taken)
+    alike-false (now (x .lent)) (now (x .table)) (turn .before .loop .i) (x .end) (turn .loop-test .taken) (c .if1 .taken)
 
 add-i : tie.Need-add-i Inv-loop μ-loop
 add-i c = search needs
@@ -51,15 +47,14 @@ loop-again c =
     (omega arith, alike-on (φ .1) (omega arith) (omega arith) (c .if1 .left))
 
 returns-2 : tie.Need-returns-2 Inv-loop μ-loop
-returns-2 c = alike-true (c .before .loop .inv .1) (width * c .before .before .args .n) (omega arith)
+returns-2 c = alike-true (c .before .loop .inv .1) (c .before .before .args .end) (omega arith)
 
-pub same-rows-spec : {M : Type 1} → statement M
-same-rows-spec =
+pub same-numbers-spec : {M : Type 1} → statement M
+same-numbers-spec =
     tie.close
     (tie.spec
     Inv-loop
     μ-loop
-    mul-end
     loop-holds
     mul-if1
     shared-slice-read-if1

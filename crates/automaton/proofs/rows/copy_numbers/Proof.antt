@@ -1,23 +1,20 @@
--- `automaton::rows::copy_rows`: at the loop's head the first i numbers are written.
+-- `automaton::rows::copy_numbers`: at the loop's head the first i numbers are written.
 use mathlib.Core.Path.{_≡_, refl, ap, _∙_}
-use Prim.Native.Nat.{ℕ, _*_, _-_, _≤_}
+use Prim.Native.Nat.{ℕ, _-_, _≤_}
 use native.Mathlib.Omega.{arith}
 use lib.ListN.{take}
 use denote.Ref.{now}
 use borrow.Author.Needs.{needs}
-use Rattle.meaning.specs.Table.{width, over}
+use Rattle.meaning.specs.Table.{over}
 use Rattle.automaton.proofs.Copied.{CopiedTo, copied-on, copied-length}
-use Rattle.automaton.proofs.rows.copy_rows.Statement.{statement}
-use Rattle.automaton.proofs.rows.copy_rows.Tie as tie
+use Rattle.automaton.proofs.rows.copy_numbers.Statement.{statement}
+use Rattle.automaton.proofs.rows.copy_numbers.Tie as tie
 
 abbrev Inv-loop : tie.InvT-loop
-Inv-loop lent₀ table n end i₀ lent i = (i ≤ end) × CopiedTo lent₀ table i lent
+Inv-loop lent₀ table end i₀ lent i = (i ≤ end) × CopiedTo lent₀ table i lent
 
 abbrev μ-loop : tie.MeasureT-loop
-μ-loop lent₀ table n end i₀ lent i = end - i
-
-mul-end : tie.Need-mul-end Inv-loop μ-loop
-mul-end c = search needs
+μ-loop lent₀ table end i₀ lent i = end - i
 
 loop-holds : tie.Need-loop-holds Inv-loop μ-loop
 loop-holds c = (omega arith, record { is = refl })
@@ -49,16 +46,15 @@ same-length c = copied-length (c .before .loop .inv .1) (omega arith)
 returns : tie.Need-returns Inv-loop μ-loop
 returns c =
     let φ = c .before .loop .inv in
-    let e : c .before .loop .i ≡ width * c .before .before .args .n = omega arith in
+    let e : c .before .loop .i ≡ c .before .before .args .end = omega arith in
     φ .1 .is ∙ ap (λ (i : ℕ). over (take i (now (c .before .before .args .table))) (now (c .before .before .args .lent))) e
 
-pub copy-rows-spec : {M : Type 1} → statement M
-copy-rows-spec =
+pub copy-numbers-spec : {M : Type 1} → statement M
+copy-numbers-spec =
     tie.close
     (tie.spec
     Inv-loop
     μ-loop
-    mul-end
     loop-holds
     mul-lent
     shared-slice-read-lent

@@ -1,14 +1,14 @@
--- `second::automaton::mixed_table` is safe and ends. Nothing has to hold from turn to turn. Assumes nothing.
+-- `second::automaton::mixed_rows` is safe and ends. Nothing has to hold from turn to turn. Assumes nothing.
 use Prim.Native.Nat.{_-_}
 use native.Mathlib.Omega.{arith}
-use Rattle.second.proofs.automaton.mixed_table.Statement.{statement}
-use Rattle.second.proofs.automaton.mixed_table.Tie as tie
+use Rattle.second.proofs.automaton.mixed_rows.Statement.{statement}
+use Rattle.second.proofs.automaton.mixed_rows.Tie as tie
 
 abbrev Inv-loop : tie.InvT-loop
-Inv-loop h letters words states count sum₀ s₀ sum s = Unit {0}
+Inv-loop h letters words states width count sum₀ s₀ sum s = Unit {0}
 
 abbrev μ-loop : tie.MeasureT-loop
-μ-loop h letters words states count sum₀ s₀ sum s = count - s
+μ-loop h letters words states width count sum₀ s₀ sum s = count - s
 
 loop-holds : tie.Need-loop-holds Inv-loop μ-loop
 loop-holds c = tt
@@ -28,7 +28,7 @@ loop-again c = tt
 returns : tie.Need-returns Inv-loop μ-loop
 returns c = tt
 
-pub mixed-table-spec : {M : Type 1} → statement M
-mixed-table-spec =
+pub mixed-rows-spec : {M : Type 1} → statement M
+mixed-rows-spec =
     tie.close
     (tie.spec Inv-loop μ-loop loop-holds mixed-row-requires add-s loop-less loop-again returns)

@@ -1,0 +1,62 @@
+// Widen and narrow: the rows in both forms, and refusals in their order.
+use super::builds::told_line;
+use super::lines::print;
+use super::lines::print_numbers;
+use orgamish::build;
+use orgamish::narrow;
+use orgamish::widen;
+
+fn widen_line(name: &[u8], dict: &[u8], stored: &[u16], table: &mut [u16]) {
+    let told = widen(dict, stored, table);
+    told_line(name, told, table);
+}
+
+fn narrow_line(name: &[u8], dict: &[u8], table: &[u16], stored: &mut [u16]) {
+    let told = narrow(dict, table, stored);
+    told_line(name, told, stored);
+}
+
+fn rows_line(name: &[u8], table: &[u16]) {
+    print(name);
+    print_numbers(table, table.len());
+    print(b"\n");
+}
+
+// There and back. There is room for one number more, which stays.
+pub fn print_moves(set_e: &[u8]) {
+    let mut table = [7u16; 81];
+    let mut stored = [7u16; 71];
+    let mut back = [7u16; 81];
+    build(set_e, &mut table);
+    narrow_line(b"narrow", set_e, &table, &mut stored);
+    rows_line(b"narrow-rows", &stored);
+    widen_line(b"widen", set_e, &stored, &mut back);
+    rows_line(b"widen-rows", &back);
+}
+
+// The input is tested before the numbers that are written to, which are too few in each case.
+pub fn print_widen_refusals(set_e: &[u8]) {
+    let mut table = [7u16; 80];
+    let mut stored = [7u16; 70];
+    let cut = [7u16; 69];
+    let mut few = [7u16; 79];
+    build(set_e, &mut table);
+    narrow(set_e, &table, &mut stored);
+    widen_line(b"widen-word-twice", b"WD\x01aWD\x01a", &cut, &mut few);
+    widen_line(b"widen-69", set_e, &cut, &mut few);
+    widen_line(b"widen-to-79", set_e, &stored, &mut few);
+    stored[69] = 8;
+    widen_line(b"widen-wrong", set_e, &stored, &mut few);
+}
+
+pub fn print_narrow_refusals(set_e: &[u8]) {
+    let mut table = [7u16; 80];
+    let cut = [7u16; 79];
+    let mut few = [7u16; 69];
+    build(set_e, &mut table);
+    narrow_line(b"narrow-word-twice", b"WD\x01aWD\x01a", &cut, &mut few);
+    narrow_line(b"narrow-79", set_e, &cut, &mut few);
+    narrow_line(b"narrow-to-69", set_e, &table, &mut few);
+    table[79] = 8;
+    narrow_line(b"narrow-wrong", set_e, &table, &mut few);
+}
