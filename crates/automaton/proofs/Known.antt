@@ -49,7 +49,7 @@ module _ {X S : Words} where
   pub grown-trans : {t₁ t₂ t₃ : List ℕ} → Grown X S t₁ t₂ → Grown X S t₂ t₃ → Grown X S t₁ t₃
   grown-trans p q = record { same = same-trans (p .same) (q .same); kept = λ s l k. q .kept s l (p .kept s l k) }
 
-pub row-stays : (t : List ℕ) (s j v c : ℕ) → HasRow t c → HasRow (setField t s j v) c
+row-stays : (t : List ℕ) (s j v c : ℕ) → HasRow t c → HasRow (setField t s j v) c
 row-stays t s j v c h = omega (arith, length-set t (width * s + j) v)
 
 -- the border, the link and the chain's length of state c are written

@@ -80,13 +80,18 @@ pub fn print_number_of_words() {
     build_line(b"words-257", &d257, &mut longer);
 }
 
-pub fn print_bad_records() {
+// With room for ten states.
+fn bad_line(name: &[u8], dict: &[u8]) {
     let mut table = [7u16; 80];
-    build_line(b"no-mark", b"WD\x01aWE\x01b", &mut table);
-    build_line(b"one-byte-left", b"WD\x01aW", &mut table);
-    build_line(b"block-mark", b"WD\x01aTB\x00\x00", &mut table);
-    build_line(b"length-0", b"WD\x01aWD\x00", &mut table);
-    build_line(b"no-length", b"WD\x01aWD", &mut table);
-    build_line(b"word-cut", b"WD\x01aWD\x02b", &mut table);
-    build_line(b"word-twice", b"WD\x01aWD\x01bWD\x01a", &mut table);
+    build_line(name, dict, &mut table);
+}
+
+pub fn print_bad_records() {
+    bad_line(b"no-mark", b"WD\x01aWE\x01b");
+    bad_line(b"one-byte-left", b"WD\x01aW");
+    bad_line(b"block-mark", b"WD\x01aTB\x00\x00");
+    bad_line(b"length-0", b"WD\x01aWD\x00");
+    bad_line(b"no-length", b"WD\x01aWD");
+    bad_line(b"word-cut", b"WD\x01aWD\x02b");
+    bad_line(b"word-twice", b"WD\x01aWD\x01bWD\x01a");
 }

@@ -34,29 +34,38 @@ pub fn print_moves(set_e: &[u8]) {
     rows_line(b"widen-rows", &back);
 }
 
-// The input is tested before the numbers that are written to, which are too few in each case.
+// To numbers that are too few for E.
+fn widen_few(name: &[u8], dict: &[u8], stored: &[u16]) {
+    let mut few = [7u16; 79];
+    widen_line(name, dict, stored, &mut few);
+}
+
+fn narrow_few(name: &[u8], dict: &[u8], table: &[u16]) {
+    let mut few = [7u16; 69];
+    narrow_line(name, dict, table, &mut few);
+}
+
+// The input is tested before the numbers that are written to.
 pub fn print_widen_refusals(set_e: &[u8]) {
     let mut table = [7u16; 80];
     let mut stored = [7u16; 70];
     let cut = [7u16; 69];
-    let mut few = [7u16; 79];
     build(set_e, &mut table);
     narrow(set_e, &table, &mut stored);
-    widen_line(b"widen-word-twice", b"WD\x01aWD\x01a", &cut, &mut few);
-    widen_line(b"widen-69", set_e, &cut, &mut few);
-    widen_line(b"widen-to-79", set_e, &stored, &mut few);
+    widen_few(b"widen-word-twice", b"WD\x01aWD\x01a", &cut);
+    widen_few(b"widen-69", set_e, &cut);
+    widen_few(b"widen-to-79", set_e, &stored);
     stored[69] = 8;
-    widen_line(b"widen-wrong", set_e, &stored, &mut few);
+    widen_few(b"widen-wrong", set_e, &stored);
 }
 
 pub fn print_narrow_refusals(set_e: &[u8]) {
     let mut table = [7u16; 80];
     let cut = [7u16; 79];
-    let mut few = [7u16; 69];
     build(set_e, &mut table);
-    narrow_line(b"narrow-word-twice", b"WD\x01aWD\x01a", &cut, &mut few);
-    narrow_line(b"narrow-79", set_e, &cut, &mut few);
-    narrow_line(b"narrow-to-69", set_e, &table, &mut few);
+    narrow_few(b"narrow-word-twice", b"WD\x01aWD\x01a", &cut);
+    narrow_few(b"narrow-79", set_e, &cut);
+    narrow_few(b"narrow-to-69", set_e, &table);
     table[79] = 8;
-    narrow_line(b"narrow-wrong", set_e, &table, &mut few);
+    narrow_few(b"narrow-wrong", set_e, &table);
 }

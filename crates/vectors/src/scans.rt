@@ -59,20 +59,25 @@ pub fn scan_line(
     }
 }
 
+// With columns for 94 letters.
+fn long_line(name: &[u8], dict: &[u8], table: &[u16], text: &[u8]) {
+    let mut states = [7u16; 95];
+    let mut counts = [7u64; 95];
+    scan_line(name, dict, table, text, &mut states, &mut counts);
+}
+
 // The words a and aa. The count of 93 letters passes 64 bits, though one letter b more has no
 // reading.
 pub fn print_counts_at_cap(runs: &[u8]) {
     let mut table = [7u16; 24];
-    let mut states = [7u16; 95];
-    let mut counts = [7u64; 95];
     let t92 = [97u8; 92];
     let t93 = [97u8; 93];
     let mut t94 = [97u8; 94];
     t94[93] = 98;
     build(runs, &mut table);
-    scan_line(b"count-92", runs, &table, &t92, &mut states, &mut counts);
-    scan_line(b"count-93", runs, &table, &t93, &mut states, &mut counts);
-    scan_line(b"count-93-b", runs, &table, &t94, &mut states, &mut counts);
+    long_line(b"count-92", runs, &table, &t92);
+    long_line(b"count-93", runs, &table, &t93);
+    long_line(b"count-93-b", runs, &table, &t94);
 }
 
 // With the words a and abc: the last reading of the texts ab and abd ends where abc has begun, and
@@ -106,37 +111,21 @@ pub fn print_text_lengths(set_e: &[u8]) {
     );
 }
 
+// The text aaaaab, with columns for it.
+fn aaaaab_line(name: &[u8], dict: &[u8], table: &[u16]) {
+    let mut states = [7u16; 7];
+    let mut counts = [7u64; 7];
+    scan_line(name, dict, table, b"aaaaab", &mut states, &mut counts);
+}
+
 pub fn print_table_refusals(set_e: &[u8]) {
     let mut table = [7u16; 80];
     let short = [7u16; 79];
-    let mut states = [7u16; 7];
-    let mut counts = [7u64; 7];
     build(set_e, &mut table);
     table[79] = 8;
-    scan_line(
-        b"scan-word-twice",
-        b"WD\x01aWD\x01a",
-        &table,
-        b"aaaaab",
-        &mut states,
-        &mut counts,
-    );
-    scan_line(
-        b"scan-table-79",
-        set_e,
-        &short,
-        b"aaaaab",
-        &mut states,
-        &mut counts,
-    );
-    scan_line(
-        b"scan-table-wrong",
-        set_e,
-        &table,
-        b"aaaaab",
-        &mut states,
-        &mut counts,
-    );
+    aaaaab_line(b"scan-word-twice", b"WD\x01aWD\x01a", &table);
+    aaaaab_line(b"scan-table-79", set_e, &short);
+    aaaaab_line(b"scan-table-wrong", set_e, &table);
 }
 
 pub fn print_column_room(set_e: &[u8]) {

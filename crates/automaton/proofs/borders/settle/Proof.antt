@@ -1,16 +1,11 @@
 -- `automaton::borders::settle`: a child that has its border is passed; any other gets border, link and chain length, and stands last
 -- in the queue.
 use mathlib.Core.Path.{sym, _∙_}
-use mathlib.Core.List.{List}
-use Prim.Native.Nat.{ℕ, _≤_}
+use Prim.Native.Nat.{_≤_}
 use native.Mathlib.Omega.{arith}
 use borrow.Author.Needs.{needs}
-use denote.Ref.{now}
 use Rattle.meaning.specs.Numbers.{absent}
-use Rattle.meaning.specs.Table.{borderField, linkField}
-use Rattle.automaton.specs.Layout.{setField, HasRow}
 use Rattle.automaton.proofs.Queue.{bordered, child-inside, child-row, child-byte, passes, border-linked, border-counted, all-small, room, settles}
-use Rattle.automaton.proofs.Known.{row-stays}
 use Rattle.automaton.proofs.borders.settle.Statement.{statement}
 use Rattle.automaton.proofs.borders.settle.Tie as tie
 
@@ -57,34 +52,21 @@ small c =
     let is = found .child-border .ensures _ _ (bordered (σ .taking)) in
     all-small σ read is (c .before .before .first-word .ensures _ _ (border-linked σ read is)) (c .count-chain .ensures _ _ (border-counted σ read is))
 
--- .. and its row is there, when the first of them is written
-abbrev first-written : tie.After-count-chain → List ℕ
-first-written c =
-    let a = entry c .args in
-    setField (now (a .table)) (a .c) borderField (c .before .before .before .before .child-border .result)
-
-row-after : (c : tie.After-count-chain) → HasRow (first-written c) (entry c .args .c)
-row-after c =
-    let a = entry c .args in
-    row-stays (now (a .table)) (a .c) borderField (c .before .before .before .before .child-border .result) (a .c) (child-row (entry c .pre .2))
-
 set-border-requires : tie.Need-set-border-requires
-set-border-requires c κs = (child-row (entry (c .before) .pre .2), small (c .before) .0)
+set-border-requires c κs = let (border, link, chain) = small (c .before) in (child-row (entry (c .before) .pre .2), omega arith)
 
 set-link-requires : tie.Need-set-link-requires
 set-link-requires c κs =
     let counted = c .before .before .before .before .before in
-    (rw (c .before .before .before .set-border .ensures) (row-after counted), small counted .1)
+    let (border, link, chain) = small counted in
+    (omega (arith, c .before .before .before .set-border .kept .0, child-row (entry counted .pre .2)), omega arith)
 
 set-chain-length-requires : tie.Need-set-chain-length-requires
 set-chain-length-requires c κs =
     let bordered = c .before .before .before .before .before .before .before in
     let counted = bordered .before .before in
-    let child = entry counted .args .c in (
-      rw (c .before .before .before .set-link .ensures, bordered .set-border .ensures)
-          (row-stays (first-written counted) child linkField (counted .before .before .first-word .result) child (row-after counted)),
-      small counted .2,
-    )
+    let (border, link, chain) = small counted in
+    (omega (arith, c .before .before .before .set-link .kept .0, bordered .set-border .kept .0, child-row (entry counted .pre .2)), omega arith)
 
 cast-queue : tie.Need-cast-queue
 cast-queue c =

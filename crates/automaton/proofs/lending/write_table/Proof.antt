@@ -37,7 +37,7 @@ copy-numbers-requires c κs =
     let made = c .before .before .before .before .before in
     let s = made .before .before .before .before .before in
     let β = made .build .ensures _ (roomy (s .args .form) (s .pre .1)) in
-    (c .before .before .if1 .left, made-room β (end-is β (c .before .before .before .row-width .ensures)))
+    (omega (arith, c .before .before .if1 .left), omega (arith, made-room β (end-is β (c .before .before .before .row-width .ensures))))
 
 same-length : tie.Need-same-length
 same-length c = search needs
