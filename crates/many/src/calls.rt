@@ -69,6 +69,7 @@ fn mixed_reading(h: u64, reading: &[u16], words: u16) -> u64 {
 // The sum with the reading of so many words, those after it, and how many they are, 40 at most.
 fn mixed_from(
     h: u64,
+    map: &[u8],
     dict: &[u8],
     table: &[u16],
     text: &[u8],
@@ -81,7 +82,7 @@ fn mixed_from(
     let mut sum = mixed_reading(h, reading, given);
     let mut listed = 1;
     while listed < 40 {
-        match next(dict, table, text, states, counts, reading, size(given)) {
+        match next(map, dict, table, text, states, counts, reading, size(given)) {
             NextAnswer::End => {
                 return mixed(sum, listed);
             }
@@ -101,6 +102,7 @@ fn mixed_from(
 // The sum with the readings of a scanned text.
 fn mixed_readings(
     h: u64,
+    map: &[u8],
     dict: &[u8],
     table: &[u16],
     text: &[u8],
@@ -108,9 +110,10 @@ fn mixed_readings(
     counts: &[u64],
 ) -> u64 {
     let mut reading = [0u16; 32];
-    match first(dict, table, text, states, counts, &mut reading) {
+    match first(map, dict, table, text, states, counts, &mut reading) {
         FirstAnswer::Words { words } => mixed_from(
             h,
+            map,
             dict,
             table,
             text,
@@ -134,10 +137,10 @@ fn mixed_columns(h: u64, states: &[u16], counts: &[u64], positions: usize) -> u6
 }
 
 // The sum with what the text's scan and listing give.
-fn mixed_text(h: u64, dict: &[u8], table: &[u16], text: &[u8]) -> u64 {
+fn mixed_text(h: u64, map: &[u8], dict: &[u8], table: &[u16], text: &[u8]) -> u64 {
     let mut states = [0u16; 32];
     let mut counts = [0u64; 32];
-    match scan(dict, table, text, &mut states, &mut counts) {
+    match scan(map, dict, table, text, &mut states, &mut counts) {
         ScanAnswer::Refused { number, place } => mixed_surprise(h, number, place),
         ScanAnswer::Scanned {
             accepted,
@@ -149,7 +152,7 @@ fn mixed_text(h: u64, dict: &[u8], table: &[u16], text: &[u8]) -> u64 {
             let h1 = mixed(mixed_columns(h, &states, &counts, text.len() + 1), verdict);
             let h2 = mixed(mixed(h1, wide(farthest)), count);
             let h3 = mixed(h2, probes as u64);
-            mixed_readings(h3, dict, table, text, &states, &counts)
+            mixed_readings(h3, map, dict, table, text, &states, &counts)
         }
     }
 }
@@ -161,9 +164,9 @@ fn mixed_rows(h: u64, words: u16, states: u16, longest: u16, table: &[u16], coun
 }
 
 // The sum with the table that a narrow one is widened to.
-fn mixed_widened(h: u64, dict: &[u8], stored: &[u16]) -> u64 {
+fn mixed_widened(h: u64, map: &[u8], dict: &[u8], stored: &[u16]) -> u64 {
     let mut table = [0u16; 512];
-    match widen(dict, stored, &mut table) {
+    match widen(map, dict, stored, &mut table) {
         BuildAnswer::Refused { number, place } => mixed_surprise(h, number, place),
         BuildAnswer::Built {
             words,
@@ -174,9 +177,9 @@ fn mixed_widened(h: u64, dict: &[u8], stored: &[u16]) -> u64 {
 }
 
 // The sum with the table narrowed, and widened again.
-fn mixed_moves(h: u64, dict: &[u8], table: &[u16]) -> u64 {
+fn mixed_moves(h: u64, map: &[u8], dict: &[u8], table: &[u16]) -> u64 {
     let mut stored = [0u16; 448];
-    match narrow(dict, table, &mut stored) {
+    match narrow(map, dict, table, &mut stored) {
         BuildAnswer::Refused { number, place } => mixed_surprise(h, number, place),
         BuildAnswer::Built {
             words,
@@ -184,16 +187,16 @@ fn mixed_moves(h: u64, dict: &[u8], table: &[u16]) -> u64 {
             longest,
         } => {
             let h1 = mixed_rows(h, words, states, longest, &stored, 7 * size(states));
-            mixed_widened(h1, dict, &stored)
+            mixed_widened(h1, map, dict, &stored)
         }
     }
 }
 
-// The sum with what a dictionary and a text give. A dictionary of at most 64 bytes has fewer than 64
-// states, of 8 numbers each.
-fn mixed_build(h: u64, dict: &[u8], text: &[u8]) -> u64 {
+// The sum with what a dictionary and a text give under a map. A dictionary of at most 64 bytes has
+// fewer than 64 states, of 8 numbers each.
+fn mixed_build(h: u64, map: &[u8], dict: &[u8], text: &[u8]) -> u64 {
     let mut table = [0u16; 512];
-    match build(dict, &mut table) {
+    match build(map, dict, &mut table) {
         BuildAnswer::Refused { number, place } => mixed_refusal(mixed(h, 1), number, place),
         BuildAnswer::Built {
             words,
@@ -208,15 +211,25 @@ fn mixed_build(h: u64, dict: &[u8], text: &[u8]) -> u64 {
                 &table,
                 8 * size(states),
             );
-            let h2 = mixed_moves(h1, dict, &table);
-            mixed_text(h2, dict, &table, text)
+            let h2 = mixed_moves(h1, map, dict, &table);
+            mixed_text(h2, map, dict, &table, text)
         }
     }
 }
 
-// The sum with what one case gives: the dictionary and the text are the first bytes of two arrays.
-pub fn mixed_case(h: u64, d: &[u8], d_len: usize, t: &[u8], t_len: usize) -> u64 {
+// The sum with what one case gives: the map, the dictionary and the text are the first bytes of
+// three arrays.
+pub fn mixed_case(
+    h: u64,
+    m: &[u8],
+    m_len: usize,
+    d: &[u8],
+    d_len: usize,
+    t: &[u8],
+    t_len: usize,
+) -> u64 {
+    let m_end = at_most(m_len, m.len());
     let d_end = at_most(d_len, d.len());
     let t_end = at_most(t_len, t.len());
-    mixed_build(h, &d[..d_end], &t[..t_end])
+    mixed_build(h, &m[..m_end], &d[..d_end], &t[..t_end])
 }

@@ -1,7 +1,8 @@
-// The library's answers for a fixed family of small cases, through its public calls. It prints a
-// running checksum, to be compared with that of `second`, which shares no code with the library and
-// whose main file says what the cases are and what is mixed in, in which order. A refusal that is
-// none of the expected is mixed in as 2, its number, its place, and ends the case.
+// The library's answers for a fixed family of small cases, through its public calls, each of which
+// is lent the case's letter map. It prints a running checksum, to be compared with that of `second`,
+// which shares no code with the library and whose main file says what the cases are and what is
+// mixed in, in which order. A refusal that is none of the expected is mixed in as 2, its number, its
+// place, and ends the case.
 mod calls;
 mod family;
 mod strings;
@@ -9,6 +10,7 @@ mod sum;
 
 use calls::mixed_case;
 use family::damaged;
+use family::random_map;
 use family::random_records;
 use family::random_text;
 use family::rnd;
@@ -20,9 +22,11 @@ fn next_case(x: &mut usize, h: u64) -> u64 {
     let dictionary = damaged(x, made.records);
     let records = made.records.at;
     let text = random_text(x, &records, made.words, letters);
+    let map = random_map(x);
+    let m = map.at;
     let d = dictionary.at;
     let t = text.at;
-    mixed_case(h, &d, dictionary.len, &t, text.len)
+    mixed_case(h, &m, map.len, &d, dictionary.len, &t, text.len)
 }
 
 fn print_line(cases: u64, h: u64) {
@@ -36,7 +40,7 @@ fn print_line(cases: u64, h: u64) {
 fn main() {
     let mut x = 20260114;
     let mut h = 0;
-    for c in 0..3000 {
+    for c in 0..4000 {
         h = next_case(&mut x, h);
         if c % 100 == 99 {
             print_line(c + 1, h);

@@ -1,7 +1,7 @@
--- Demands 2 and 3 of document 01, what farthest is, and what a row tells of a position, over the contracts of the public calls.
+-- Demands 2 and 3 of document 01, what farthest is, and what a row tells of a position, over what the public calls tell and leave.
 use mathlib.Core.Path.{_≡_, refl, sym, ap, _∙_}
 use mathlib.Core.Logic.{_↔_}
-use mathlib.Core.Bool.{Bool, true, false}
+use mathlib.Core.Bool.{Bool, true}
 use mathlib.Core.Option.{Option, some}
 use mathlib.Core.List.{List, [], _∷_, _++_, head?, append-assoc, List·Memᴰ, List·Memᴰ·head, List·Memᴰ·tail}
 use Prim.Native.Nat.{ℕ, zero, suc, _+_, _*_, _≤_, _<_}
@@ -9,23 +9,19 @@ use native.Mathlib.Omega.{arith}
 use borrow.Author.Tests.{le-ltb, le-leb}
 use lib.ListN.{length, getD, getElem?, take, drop, length-append, length-drop}
 use lib.Seq.{getD-take, take-append-seam}
-use Rattle.meaning.specs.Numbers.{letterValues}
 use Rattle.meaning.specs.Words.{Word, Words, Reading}
 use Rattle.meaning.specs.Automaton.{chain}
 use Rattle.meaning.specs.Table.{width, chainField, table, over}
 use Rattle.meaning.specs.Readings.{readings, accepted, capped, countAt, stateAt, probes, farthest}
 use Rattle.meaning.specs.Listing.{isReading, nextReading}
-use Rattle.meaning.specs.Plain.{Dictionary, Allowed, Star, Farthest, IsReading, LettersBelow}
+use Rattle.meaning.specs.Plain.{Dictionary, Allowed, Star, Farthest, IsReading}
 use Rattle.meaning.proofs.Rows.{table-length}
-use Rattle.meaning.proofs.Readings.{accepted-is-star, readings-are, isReading-is}
+use Rattle.meaning.proofs.Readings.{accepted-is-star, accepted-has-reading, readings-are, isReading-is}
 use Rattle.meaning.proofs.Columns.{column-at, state-inside, words-ending}
 use Rattle.meaning.proofs.Farthest.{farthest-is}
 use Rattle.meaning.proofs.Next.{next-at}
-use Rattle.records.specs.Letters.{mapped, identity}
-use Rattle.records.specs.Run.{ran, dictionary}
+use Rattle.records.specs.Run.{Run, ran}
 use Rattle.records.specs.Told.{Told, answer, refusal}
-use Rattle.records.proofs.Bytes.{identity-below, mapped-identity}
-use Rattle.records.proofs.Accepted as record-laws
 use Rattle.columns.specs.Columns.{Scanned}
 use Rattle.orgamish.specs.Order.{_andThen_, scanRefusal, listRefusal, unreadRefusal, givenRefusal, fitRefusal, firstRefusal, nextRefusal}
 use Rattle.orgamish.specs.Calls.{flag, lengthOf, listed, scanTells, firstLeaves, nextTells, nextLeaves}
@@ -69,47 +65,47 @@ next-behind X t Q ns L e =
     ∙ ap (λ (l : List Reading). getElem? l (suc (length Q))) e
     ∙ past-split Q ns L
 
--- the words of an accepted dictionary
-module _ (d : List ℕ) {X : Words} {end : ℕ} (is : dictionary identity d ≡ ran X end) where
-  allowed : Allowed X
-  allowed = record-laws.allowed identity-below (record-laws.accepted false identity d is)
-
+-- the words X of an accepted dictionary
+module _ {run : Run} {X : Words} {end : ℕ} (is : run ≡ ran X end) (allowed : Allowed X) where
   words : Dictionary X
   words = allowed .storable .dictionary
 
-  module _ (tb u ss cs : List ℕ) where
-    abbrev t : Word
-    t = mapped identity u
-
+  module _ (tb : List ℕ) (t : Word) (ss cs : List ℕ) where
     -- what an answer of the scan says
     module _ (clear : scanRefusal X tb t ss cs ≡ 0) (yes : Bool) (f c p : ℕ)
-        (e : scanTold (scan.Scanned yes f c p) ≡ scanTells identity d tb u ss cs) where
+        (e : scanTold (scan.Scanned yes f c p) ≡ scanTells run tb t ss cs) where
       abbrev values : Words → List ℕ
       values Y = flag (accepted Y t) ∷ farthest Y t ∷ countAt Y t (length t) ∷ probes Y t ∷ []
 
       told : flag yes ∷ f ∷ c ∷ p ∷ [] ≡ values X
       told =
-          let came : Came (λ Y. scanRefusal Y tb t ss cs) (dictionary identity d) X 0 = record { end = end; is = is; comes = clear } in
+          let came : Came (λ Y. scanRefusal Y tb t ss cs) run X 0 = record { end = end; is = is; comes = clear } in
           ap (λ (a : Told). a .values) (e ∙ sym (came-tells came values))
 
-      -- demand 2: accepted exactly where the text is in X*, by its own bytes
-      pub accepts-star : LettersBelow letterValues u → (yes ≡ true) ↔ Star X u
-      accepts-star bytes =
-          let flags : flag yes ≡ flag (accepted X t) = let q = told in cc in
-          let same = flag-once yes (accepted X t) flags in
-          let own = mapped-identity u bytes in
-          let star = accepted-is-star X words u in
-          (λ y. star .0 (ap (accepted X) (sym own) ∙ sym same ∙ y), λ s. same ∙ ap (accepted X) own ∙ star .1 s)
+      verdict : yes ≡ accepted X t
+      verdict = let flags : flag yes ≡ flag (accepted X t) = let q = told in cc in flag-once yes (accepted X t) flags
+
+      -- demand 2: accepted exactly where the text is in X*
+      pub accepts-star : (yes ≡ true) ↔ Star X t
+      accepts-star =
+          let star = accepted-is-star X words t in
+          (λ y. star .0 (sym verdict ∙ y), λ s. verdict ∙ star .1 s)
+
+      -- .. that is, where it has a reading
+      pub accepts-reading : (yes ≡ true) ↔ ((ns : Reading) × IsReading X t ns)
+      accepts-reading =
+          let read = accepted-has-reading X words t in
+          (λ y. read .0 (sym verdict ∙ y), λ r. verdict ∙ read .1 r)
 
       -- demand 3: the count is the number of readings, or 2^64 - 1 where there are more
       pub counts-readings : c ≡ capped (length (readings X t))
       counts-readings = let q = told in cc
 
       -- farthest is the longest prefix of the text that is also a prefix of some concatenation of words
-      pub reads-farthest : LettersBelow letterValues u → Farthest X u f
-      reads-farthest bytes =
+      pub reads-farthest : Farthest X t f
+      reads-farthest =
           let far : f ≡ farthest X t = let q = told in cc in
-          farthest-is X words u f .1 (far ∙ ap (farthest X) (mapped-identity u bytes))
+          farthest-is X words t f .1 far
 
     module _ (clear : listRefusal X tb t ss cs ≡ 0) where
       -- the row of the state at position i tells how many words end there
@@ -127,7 +123,7 @@ module _ (d : List ℕ) {X : Words} {end : ℕ} (is : dictionary identity d ≡ 
       End = answer (0 ∷ [])
 
       first-came : (b : List ℕ) {n : ℕ} → let o = head? (readings X t) in unreadRefusal o andThen fitRefusal o b ≡ n
-          → Came (λ Y. firstRefusal Y tb t ss cs b) (dictionary identity d) X n
+          → Came (λ Y. firstRefusal Y tb t ss cs b) run X n
       first-came b e = record {
         end = end;
         is = is;
@@ -135,7 +131,7 @@ module _ (d : List ℕ) {X : Words} {end : ℕ} (is : dictionary identity d ≡ 
       }
 
       next-came : (b : List ℕ) (k : ℕ) → k ≤ length b → isReading X t (take k b) ≡ true → fitRefusal (nextReading X t (take k b)) b ≡ 0
-          → Came (λ Y. nextRefusal Y tb t ss cs b k) (dictionary identity d) X 0
+          → Came (λ Y. nextRefusal Y tb t ss cs b k) run X 0
       next-came b k h r e =
           let given : givenRefusal X t b k ≡ 0 = rw (le-ltb (length b) k h, r) in
           record {
@@ -154,8 +150,8 @@ module _ (d : List ℕ) {X : Words} {end : ℕ} (is : dictionary identity d ≡ 
       -- what next tells and leaves where ns stands in the buffer
       next-call : (L Q : List Reading) (ns : Reading) → readings X t ≡ Q ++ ns ∷ L → (b : List ℕ) → take (length ns) b ≡ ns → length t ≤ length b
           → fitRefusal (head? L) b ≡ 0
-          → (nextTells identity d tb u ss cs b (length ns) ≡ answer (lengthOf (head? L)))
-          × (nextLeaves identity d tb u ss cs b (length ns) ≡ listed (head? L) b)
+          → (nextTells run tb t ss cs b (length ns) ≡ answer (lengthOf (head? L)))
+          × (nextLeaves run tb t ss cs b (length ns) ≡ listed (head? L) b)
       next-call L Q ns e b at long fit =
           let k = length ns in
           let next : nextReading X t (take k b) ≡ head? L = ap (nextReading X t) at ∙ next-behind X t Q ns L e in
@@ -168,16 +164,16 @@ module _ (d : List ℕ) {X : Words} {end : ℕ} (is : dictionary identity d ≡ 
       -- one call more, that told so and left the buffer so
       abbrev onto : ℕ → Reading → Told → List ℕ → Heard
       onto f ws told after =
-          let more = goOn (listingFrom identity d tb u ss cs f after) told (told .values) in
+          let more = goOn (listingFrom run tb t ss cs f after) told (told .values) in
           heard (ws ∷ more .seen) (more .last)
 
       -- the readings that are still to come
       from : (L Q : List Reading) (ns : Reading) → readings X t ≡ Q ++ ns ∷ L → (b : List ℕ) → take (length ns) b ≡ ns → length t ≤ length b
-          → (f : ℕ) → length L < f → listingFrom identity d tb u ss cs f b (length ns) ≡ heard (ns ∷ L) End
+          → (f : ℕ) → length L < f → listingFrom run tb t ss cs f b (length ns) ≡ heard (ns ∷ L) End
       from L Q ns e b at long zero h = absurd (omega arith)
       from [] Q ns e b at long (suc f) h =
           let (told, after) = next-call [] Q ns e b at long refl in
-          ap (λ (a : Told). onto f (take (length ns) b) a (nextLeaves identity d tb u ss cs b (length ns))) told
+          ap (λ (a : Told). onto f (take (length ns) b) a (nextLeaves run tb t ss cs b (length ns))) told
           ∙ ap (λ (ws : Reading). heard (ws ∷ []) End) at
       from (ms ∷ L) Q ns e b at long (suc f) h =
           let k = length ns in
@@ -185,29 +181,29 @@ module _ (d : List ℕ) {X : Words} {end : ℕ} (is : dictionary identity d ≡ 
           let (told, after) = next-call (ms ∷ L) Q ns e b at long (fits-buffer ms b room) in
           let later = from L (Q ++ ns ∷ []) ms (snoc-split Q ns ms L e) (over ms b) (take-append-seam ms (drop (length ms) b))
           (omega (arith, over-long ms b room)) f (omega arith) in
-          ap (λ (a : Told). onto f (take k b) a (nextLeaves identity d tb u ss cs b k)) told
+          ap (λ (a : Told). onto f (take k b) a (nextLeaves run tb t ss cs b k)) told
           ∙ ap (λ (l : List ℕ). onto f (take k b) (answer (1 ∷ length ms ∷ [])) l) after
           ∙ ap (λ (q : Heard). heard (take k b ∷ q .seen) (q .last)) later
           ∙ ap (λ (ws : Reading). heard (ws ∷ ms ∷ L) End) at
 
       -- a text without a reading
-      pub lists-none : (b : List ℕ) (f : ℕ) → readings X t ≡ [] → listing identity d tb u ss cs f b ≡ heard [] (refusal 12 0)
+      pub lists-none : (b : List ℕ) (f : ℕ) → readings X t ≡ [] → listing run tb t ss cs f b ≡ heard [] (refusal 12 0)
       lists-none b f e =
           let w = first-came b {n = 12} (rw e) in
-          ap (λ (a : Told). goOn (listingFrom identity d tb u ss cs f (firstLeaves identity d tb u ss cs b)) a (a .values))
+          ap (λ (a : Told). goOn (listingFrom run tb t ss cs f (firstLeaves run tb t ss cs b)) a (a .values))
           (sym (came-tells w (λ Y. lengthOf (head? (readings Y t)))))
 
       -- every reading once, in order, and then End
       pub lists-all : (b : List ℕ) → length t ≤ length b → (f : ℕ) → length (readings X t) ≤ f → (ns : Reading) (L : List Reading)
-          → readings X t ≡ ns ∷ L → listing identity d tb u ss cs f b ≡ heard (readings X t) End
+          → readings X t ≡ ns ∷ L → listing run tb t ss cs f b ≡ heard (readings X t) End
       lists-all b long f h ns L e =
           let room : length ns ≤ length b = omega (arith, short L [] ns e) in
           let o : head? (readings X t) ≡ some ns = ap head? e in
           let w = first-came b (ap (λ (q : Option Reading). unreadRefusal q andThen fitRefusal q b) o ∙ fits-buffer ns b room) in
           let told = sym (came-tells w (λ Y. lengthOf (head? (readings Y t)))) ∙ ap (λ (q : Option Reading). answer (lengthOf q)) o in
           let after = sym (came-leaves w (λ Y. listed (head? (readings Y t)) b) b) ∙ ap (λ (q : Option Reading). listed q b) o in
-          ap (λ (a : Told). goOn (listingFrom identity d tb u ss cs f (firstLeaves identity d tb u ss cs b)) a (a .values)) told
-          ∙ ap (λ (l : List ℕ). listingFrom identity d tb u ss cs f l (length ns)) after
+          ap (λ (a : Told). goOn (listingFrom run tb t ss cs f (firstLeaves run tb t ss cs b)) a (a .values)) told
+          ∙ ap (λ (l : List ℕ). listingFrom run tb t ss cs f l (length ns)) after
           ∙ from L [] ns e (over ns b) (take-append-seam ns (drop (length ns) b)) (omega (arith, over-long ns b room)) f
           (omega (arith, ap length e))
           ∙ ap (λ (R : List Reading). heard R End) (sym e)

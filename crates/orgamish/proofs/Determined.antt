@@ -4,6 +4,9 @@ use mathlib.Core.Bool.{Bool, true, false}
 use mathlib.Core.List.{List}
 use Prim.Native.Nat.{ℕ}
 use native.Mathlib.Omega.{arith}
+use Rattle.meaning.specs.Words.{Word}
+use Rattle.records.specs.Run.{Run}
+use Rattle.records.specs.Book.{Opened}
 use Rattle.records.specs.Told.{Told}
 use Rattle.records.proofs.Determined.{parts}
 use Rattle.orgamish.specs.Calls.{flag, buildTells, buildLeaves, widenTells, widenLeaves, narrowTells, narrowLeaves, scanTells, scanLeavesStates, scanLeavesCounts, firstTells, firstLeaves, nextTells, nextLeaves, bookTells}
@@ -72,43 +75,43 @@ table-decides : (told : Told) (left : List ℕ) (r s : BuildAnswer) (t u : List 
     → (r ≡ s) × (t ≡ u)
 table-decides told left r s t u p q = (build-once r s (p .0 ∙ sym (q .0)), p .1 ∙ sym (q .1))
 
-module _ (m d tb : List ℕ) where
-  pub build-decides : (r s : BuildAnswer) (t u : List ℕ) → TableAllows (buildTells m d tb) (buildLeaves m d tb) r t
-      → TableAllows (buildTells m d tb) (buildLeaves m d tb) s u → (r ≡ s) × (t ≡ u)
-  build-decides = table-decides (buildTells m d tb) (buildLeaves m d tb)
+module _ (run : Run) (tb : List ℕ) where
+  pub build-decides : (r s : BuildAnswer) (t u : List ℕ) → TableAllows (buildTells run tb) (buildLeaves run tb) r t
+      → TableAllows (buildTells run tb) (buildLeaves run tb) s u → (r ≡ s) × (t ≡ u)
+  build-decides = table-decides (buildTells run tb) (buildLeaves run tb)
 
   module _ (nt : List ℕ) where
-    pub widen-decides : (r s : BuildAnswer) (t u : List ℕ) → TableAllows (widenTells m d tb nt) (widenLeaves m d tb nt) r t
-        → TableAllows (widenTells m d tb nt) (widenLeaves m d tb nt) s u → (r ≡ s) × (t ≡ u)
-    widen-decides = table-decides (widenTells m d tb nt) (widenLeaves m d tb nt)
+    pub widen-decides : (r s : BuildAnswer) (t u : List ℕ) → TableAllows (widenTells run tb nt) (widenLeaves run tb nt) r t
+        → TableAllows (widenTells run tb nt) (widenLeaves run tb nt) s u → (r ≡ s) × (t ≡ u)
+    widen-decides = table-decides (widenTells run tb nt) (widenLeaves run tb nt)
 
-    pub narrow-decides : (r s : BuildAnswer) (t u : List ℕ) → TableAllows (narrowTells m d tb nt) (narrowLeaves m d tb nt) r t
-        → TableAllows (narrowTells m d tb nt) (narrowLeaves m d tb nt) s u → (r ≡ s) × (t ≡ u)
-    narrow-decides = table-decides (narrowTells m d tb nt) (narrowLeaves m d tb nt)
+    pub narrow-decides : (r s : BuildAnswer) (t u : List ℕ) → TableAllows (narrowTells run tb nt) (narrowLeaves run tb nt) r t
+        → TableAllows (narrowTells run tb nt) (narrowLeaves run tb nt) s u → (r ≡ s) × (t ≡ u)
+    narrow-decides = table-decides (narrowTells run tb nt) (narrowLeaves run tb nt)
 
-  module _ (text ss cs : List ℕ) where
+  module _ (t : Word) (ss cs : List ℕ) where
     abbrev ScanAllows : ScanAnswer → List ℕ → List ℕ → Type 0
     ScanAllows r states counts =
-        (scanTold r ≡ scanTells m d tb text ss cs)
-        × (states ≡ scanLeavesStates m d tb text ss cs)
-        × (counts ≡ scanLeavesCounts m d tb text ss cs)
+        (scanTold r ≡ scanTells run tb t ss cs)
+        × (states ≡ scanLeavesStates run tb t ss cs)
+        × (counts ≡ scanLeavesCounts run tb t ss cs)
 
-    pub scan-decides : (r s : ScanAnswer) (t u v w : List ℕ) → ScanAllows r t v → ScanAllows s u w → (r ≡ s) × (t ≡ u) × (v ≡ w)
-    scan-decides r s t u v w p q = (scan-once r s (p .0 ∙ sym (q .0)), p .1 ∙ sym (q .1), p .2 ∙ sym (q .2))
+    pub scan-decides : (r s : ScanAnswer) (o u v w : List ℕ) → ScanAllows r o v → ScanAllows s u w → (r ≡ s) × (o ≡ u) × (v ≡ w)
+    scan-decides r s o u v w p q = (scan-once r s (p .0 ∙ sym (q .0)), p .1 ∙ sym (q .1), p .2 ∙ sym (q .2))
 
     module _ (buffer : List ℕ) where
       abbrev FirstAllows : FirstAnswer → List ℕ → Type 0
-      FirstAllows r reading = (firstTold r ≡ firstTells m d tb text ss cs buffer) × (reading ≡ firstLeaves m d tb text ss cs buffer)
+      FirstAllows r reading = (firstTold r ≡ firstTells run tb t ss cs buffer) × (reading ≡ firstLeaves run tb t ss cs buffer)
 
-      pub first-decides : (r s : FirstAnswer) (t u : List ℕ) → FirstAllows r t → FirstAllows s u → (r ≡ s) × (t ≡ u)
-      first-decides r s t u p q = (first-once r s (p .0 ∙ sym (q .0)), p .1 ∙ sym (q .1))
+      pub first-decides : (r s : FirstAnswer) (v w : List ℕ) → FirstAllows r v → FirstAllows s w → (r ≡ s) × (v ≡ w)
+      first-decides r s v w p q = (first-once r s (p .0 ∙ sym (q .0)), p .1 ∙ sym (q .1))
 
       module _ (k : ℕ) where
         abbrev NextAllows : NextAnswer → List ℕ → Type 0
-        NextAllows r reading = (nextTold r ≡ nextTells m d tb text ss cs buffer k) × (reading ≡ nextLeaves m d tb text ss cs buffer k)
+        NextAllows r reading = (nextTold r ≡ nextTells run tb t ss cs buffer k) × (reading ≡ nextLeaves run tb t ss cs buffer k)
 
-        pub next-decides : (r s : NextAnswer) (t u : List ℕ) → NextAllows r t → NextAllows s u → (r ≡ s) × (t ≡ u)
-        next-decides r s t u p q = (next-once r s (p .0 ∙ sym (q .0)), p .1 ∙ sym (q .1))
+        pub next-decides : (r s : NextAnswer) (v w : List ℕ) → NextAllows r v → NextAllows s w → (r ≡ s) × (v ≡ w)
+        next-decides r s v w p q = (next-once r s (p .0 ∙ sym (q .0)), p .1 ∙ sym (q .1))
 
-pub book-decides : (m b : List ℕ) (r s : BookAnswer) → bookTold r ≡ bookTells m b → bookTold s ≡ bookTells m b → r ≡ s
-book-decides m b r s p q = book-once r s (p ∙ sym q)
+pub book-decides : (o : Opened) (r s : BookAnswer) → bookTold r ≡ bookTells o → bookTold s ≡ bookTells o → r ≡ s
+book-decides o r s p q = book-once r s (p ∙ sym q)

@@ -1,3 +1,4 @@
+pub mod Under
 pub mod Verdicts
 pub mod Cleared
 pub mod Called
@@ -5,3 +6,4 @@ pub mod Listings
 pub mod Determined
 pub mod Moves
 pub mod Demands
+pub mod Alike

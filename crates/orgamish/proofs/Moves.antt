@@ -9,7 +9,7 @@ use borrow.Author.Tests.{le-ltb}
 use Rattle.meaning.specs.Words.{Words}
 use Rattle.meaning.specs.Table.{table, narrowTable, over}
 use Rattle.meaning.proofs.Find.{same-refl}
-use Rattle.records.specs.Run.{Run, ran, refused, dictionary}
+use Rattle.records.specs.Run.{Run, ran, refused}
 use Rattle.records.specs.Told.{Told, refusal, answer}
 use Rattle.orgamish.specs.Order.{_andThen_, tableRefusal, buildRefusal, moveRefusal}
 use Rattle.orgamish.specs.Calls.{toldBy, tells, measures, moveTells, moveLeaves, widenTells, widenLeaves, narrowTells, narrowLeaves}
@@ -20,9 +20,9 @@ use Rattle.orgamish.proofs.Cleared.{none-first, begins-with, long-enoug
 use Rattle.orgamish.proofs.Called.{Came, came-tells, came-leaves, then-comes}
 
 -- an input that is refused is refused so, whatever the destination
-pub input-first : (form other : Words → List ℕ) (m d input lent : List ℕ) {X : Words} {end n : ℕ} → dictionary m d ≡ ran X end
-    → tableRefusal (other X) input ≡ suc n → moveTells form m d lent other input ≡ refusal (suc n) 0
-input-first form other m d input lent {X} {end} {n} is e =
+pub input-first : (form other : Words → List ℕ) (run : Run) (input lent : List ℕ) {X : Words} {end n : ℕ} → run ≡ ran X end
+    → tableRefusal (other X) input ≡ suc n → moveTells form run lent other input ≡ refusal (suc n) 0
+input-first form other run input lent {X} {end} {n} is e =
     sym (came-tells (record { end = end; is = is; comes = ap (λ (k : ℕ). k andThen buildRefusal (form X) lent) e }) measures)
 
 -- an answer that tells values is no refusal
@@ -51,12 +51,12 @@ over-itself : (n : ℕ) (l : List ℕ) → n ≤ length l → over (take n l) l 
 over-itself n l h = ap (λ (k : ℕ). take n l ++ drop k l) (length-take-le n l h) ∙ take-append-drop n l
 
 -- from one form to another, and back to numbers with room for it: they are told the same, and get the rows that the input had
-module _ (form other : Words → List ℕ) (m d input lent : List ℕ) {X : Words} {end : ℕ} (is : dictionary m d ≡ ran X end)
+module _ (form other : Words → List ℕ) (run : Run) (input lent : List ℕ) {X : Words} {end : ℕ} (is : run ≡ ran X end)
     (clear : moveRefusal (other X) (form X) input lent ≡ 0) where
   abbrev moved : List ℕ
-  moved = moveLeaves form m d lent other input
+  moved = moveLeaves form run lent other input
 
-  there : Came (λ Y. moveRefusal (other Y) (form Y) input lent) (dictionary m d) X 0
+  there : Came (λ Y. moveRefusal (other Y) (form Y) input lent) run X 0
   there = record { end = end; is = is; comes = clear }
 
   moved-is : moved ≡ over (form X) lent
@@ -66,7 +66,7 @@ module _ (form other : Words → List ℕ) (m d input lent : List ℕ) {X : Word
   right = none-first (tableRefusal (other X) input) (buildRefusal (form X) lent) clear
 
   module _ (home : List ℕ) (room : length (other X) ≤ length home) where
-    back : Came (λ Y. moveRefusal (form Y) (other Y) moved home) (dictionary m d) X 0
+    back : Came (λ Y. moveRefusal (form Y) (other Y) moved home) run X 0
     back = record {
       end = end;
       is = is;
@@ -75,31 +75,31 @@ module _ (form other : Words → List ℕ) (m d input lent : List ℕ) {X : Word
           (ap (tableRefusal (form X)) moved-is ∙ over-right (form X) lent) (fits (other X) home room);
     }
 
-    pub back-tells : moveTells other m d home form moved ≡ moveTells form m d lent other input
+    pub back-tells : moveTells other run home form moved ≡ moveTells form run lent other input
     back-tells = sym (came-tells back measures) ∙ came-tells there measures
 
-    pub back-leaves : moveLeaves other m d home form moved ≡ over (take (length (other X)) input) home
+    pub back-leaves : moveLeaves other run home form moved ≡ over (take (length (other X)) input) home
     back-leaves =
         sym (came-leaves back (λ Y. over (other Y) home) home)
         ∙ ap (λ (T : List ℕ). over T home) (sym (begins-with (other X) input right))
 
 -- over the input itself: it is left as it was
-comes-back : (form other : Words → List ℕ) (m d input lent : List ℕ) {v : ℕ} {vs : List ℕ} → moveTells form m d lent other input ≡ answer (v ∷ vs)
-    → (moveTells other m d input form (moveLeaves form m d lent other input) ≡ answer (v ∷ vs))
-    × (moveLeaves other m d input form (moveLeaves form m d lent other input) ≡ input)
-comes-back form other m d input lent e =
-    let p = answered (λ X. moveRefusal (other X) (form X) input lent) measures (dictionary m d) e in
+comes-back : (form other : Words → List ℕ) (run : Run) (input lent : List ℕ) {v : ℕ} {vs : List ℕ} → moveTells form run lent other input ≡ answer (v ∷ vs)
+    → (moveTells other run input form (moveLeaves form run lent other input) ≡ answer (v ∷ vs))
+    × (moveLeaves other run input form (moveLeaves form run lent other input) ≡ input)
+comes-back form other run input lent e =
+    let p = answered (λ X. moveRefusal (other X) (form X) input lent) measures run e in
     let room = long-enough (other (p .X)) input (none-first (tableRefusal (other (p .X)) input) (buildRefusal (form (p .X)) lent) (p .clear)) in (
-      back-tells form other m d input lent (p .is) (p .clear) input room ∙ e,
-      back-leaves form other m d input lent (p .is) (p .clear) input room ∙ over-itself (length (other (p .X))) input room,
+      back-tells form other run input lent (p .is) (p .clear) input room ∙ e,
+      back-leaves form other run input lent (p .is) (p .clear) input room ∙ over-itself (length (other (p .X))) input room,
     )
 
 -- a narrow table nt that is widened to tb, and narrowed again
-pub widened-back : (m d tb nt : List ℕ) {w n r : ℕ} → widenTells m d tb nt ≡ buildTold (Built w n r)
-    → (narrowTells m d (widenLeaves m d tb nt) nt ≡ buildTold (Built w n r)) × (narrowLeaves m d (widenLeaves m d tb nt) nt ≡ nt)
-widened-back m d tb nt e = comes-back table narrowTable m d nt tb e
+pub widened-back : (run : Run) (tb nt : List ℕ) {w n r : ℕ} → widenTells run tb nt ≡ buildTold (Built w n r)
+    → (narrowTells run (widenLeaves run tb nt) nt ≡ buildTold (Built w n r)) × (narrowLeaves run (widenLeaves run tb nt) nt ≡ nt)
+widened-back run tb nt e = comes-back table narrowTable run nt tb e
 
 -- a table tb that is narrowed to nt, and widened again
-pub narrowed-back : (m d tb nt : List ℕ) {w n r : ℕ} → narrowTells m d tb nt ≡ buildTold (Built w n r)
-    → (widenTells m d tb (narrowLeaves m d tb nt) ≡ buildTold (Built w n r)) × (widenLeaves m d tb (narrowLeaves m d tb nt) ≡ tb)
-narrowed-back m d tb nt e = comes-back narrowTable table m d tb nt e
+pub narrowed-back : (run : Run) (tb nt : List ℕ) {w n r : ℕ} → narrowTells run tb nt ≡ buildTold (Built w n r)
+    → (widenTells run tb (narrowLeaves run tb nt) ≡ buildTold (Built w n r)) × (widenLeaves run tb (narrowLeaves run tb nt) ≡ tb)
+narrowed-back run tb nt e = comes-back narrowTable table run tb nt e

@@ -10,13 +10,15 @@ use Rattle.meaning.specs.Numbers.{letterValues, longestText}
 use Rattle.meaning.specs.Words.{Word, Words}
 use Rattle.meaning.specs.Plain.{Allowed}
 use Rattle.records.specs.Letters.{letter}
-use Rattle.records.specs.Run.{Run, ran, refused, dictionary}
+use Rattle.records.specs.Run.{Run, ran, refused}
 use Rattle.records.proofs.Accepted.{accepted, allowed}
 use Rattle.records.proofs.Determined.{RanAs}
 use Rattle.automaton.specs.Building.{Accepted}
+use Rattle.orgamish.specs.Under.{wordsUnder}
 use Rattle.orgamish.specs.Order.{_andThen_, textRefusal, roomRefusal}
 use Rattle.orgamish.specs.Judging.{passed, verdict}
 use Rattle.orgamish.specs.declared.judging.Verdict.the-variants.{Passed, Refused}
+use Rattle.orgamish.proofs.Under.{under-ran}
 
 -- the run that passes
 pub record Passes (test : Words → ℕ) (run : Run) : Type 0 where
@@ -68,13 +70,13 @@ module _ (t : Word) (ss cs : List ℕ) where
 
 -- an accepted dictionary, by what its check told
 pub told-accepted : {m d : List ℕ} {words letters end : ℕ} → ((x : ℕ) → letter m x < letterValues)
-    → (r : RanAs (dictionary m d) words letters end) → Accepted (r .X) m d words
+    → (r : RanAs (wordsUnder m d) words letters end) → Accepted (r .X) m d words
 told-accepted {m} {d} {end = end} bytes r = record {
-  allowed = allowed bytes (accepted false m d (r .is));
+  allowed = allowed bytes (accepted false m d (under-ran m d (r .is)));
   end = end;
-  runs = r .is;
+  runs = under-ran m d (r .is);
   count = sym (r .count);
 }
 
-pub passed-allowed : (m d : List ℕ) {test : Words → ℕ} → ((x : ℕ) → letter m x < letterValues) → (p : Passes test (dictionary m d)) → Allowed (p .X)
-passed-allowed m d bytes p = allowed bytes (accepted false m d (p .is))
+pub passed-allowed : (m d : List ℕ) {test : Words → ℕ} → ((x : ℕ) → letter m x < letterValues) → (p : Passes test (wordsUnder m d)) → Allowed (p .X)
+passed-allowed m d bytes p = allowed bytes (accepted false m d (under-ran m d (p .is)))

@@ -4,14 +4,13 @@ use mathlib.Core.Option.{Option, none, some}
 use mathlib.Core.List.{List, [], _∷_, head?}
 use Prim.Native.Nat.{ℕ, zero, suc}
 use lib.ListN.{length, take}
-use Rattle.meaning.specs.Words.{Words, Reading}
+use Rattle.meaning.specs.Words.{Word, Words, Reading}
 use Rattle.meaning.specs.Automaton.{states, longestChain}
 use Rattle.meaning.specs.Table.{table, narrowTable, over}
 use Rattle.meaning.specs.Readings.{readings, accepted, countAt, stateColumn, countColumn, probes, farthest}
 use Rattle.meaning.specs.Listing.{nextReading}
-use Rattle.records.specs.Letters.{mapped}
-use Rattle.records.specs.Run.{Run, ran, refused, dictionary}
-use Rattle.records.specs.Book.{Opened, opened, shut, book}
+use Rattle.records.specs.Run.{Run, ran, refused}
+use Rattle.records.specs.Book.{Opened, opened, shut}
 use Rattle.records.specs.Told.{Told, refusal, answer}
 use Rattle.orgamish.specs.Order.{buildRefusal, moveRefusal, scanRefusal, firstRefusal, nextRefusal}
 
@@ -51,87 +50,76 @@ listed (some ws) buffer = over ws buffer
 abbrev pub measures : Words → List ℕ
 measures X = length X ∷ length (states X) ∷ longestChain X ∷ []
 
--- A table is written to lent numbers, in a form: `table`, or `narrowTable`. The letter map m, the dictionary d.
-module _ (form : Words → List ℕ) (m d lent : List ℕ) where
+-- By the run of a dictionary's records: a table is written to lent numbers, in a form, `table` or `narrowTable`
+module _ (form : Words → List ℕ) (run : Run) (lent : List ℕ) where
   abbrev pub writeTells : Told
-  writeTells = tells (λ X. buildRefusal (form X) lent) measures (dictionary m d)
+  writeTells = tells (λ X. buildRefusal (form X) lent) measures run
 
   abbrev pub writeLeaves : List ℕ
-  writeLeaves = leaves (λ X. buildRefusal (form X) lent) (λ X. over (form X) lent) lent (dictionary m d)
+  writeLeaves = leaves (λ X. buildRefusal (form X) lent) (λ X. over (form X) lent) lent run
 
   -- .. from that which the input has in another form
   module _ (other : Words → List ℕ) (input : List ℕ) where
     abbrev pub moveTells : Told
-    moveTells = tells (λ X. moveRefusal (other X) (form X) input lent) measures (dictionary m d)
+    moveTells = tells (λ X. moveRefusal (other X) (form X) input lent) measures run
 
     abbrev pub moveLeaves : List ℕ
-    moveLeaves = leaves (λ X. moveRefusal (other X) (form X) input lent) (λ X. over (form X) lent) lent (dictionary m d)
+    moveLeaves = leaves (λ X. moveRefusal (other X) (form X) input lent) (λ X. over (form X) lent) lent run
 
 -- the table tb
-module _ (m d tb : List ℕ) where
+module _ (run : Run) (tb : List ℕ) where
   abbrev pub buildTells : Told
-  buildTells = writeTells table m d tb
+  buildTells = writeTells table run tb
 
   abbrev pub buildLeaves : List ℕ
-  buildLeaves = writeLeaves table m d tb
+  buildLeaves = writeLeaves table run tb
 
   -- the narrow table nt: widen reads it and writes tb, narrow reads tb and writes it
   module _ (nt : List ℕ) where
     abbrev pub widenTells : Told
-    widenTells = moveTells table m d tb narrowTable nt
+    widenTells = moveTells table run tb narrowTable nt
 
     abbrev pub widenLeaves : List ℕ
-    widenLeaves = moveLeaves table m d tb narrowTable nt
+    widenLeaves = moveLeaves table run tb narrowTable nt
 
     abbrev pub narrowTells : Told
-    narrowTells = moveTells narrowTable m d nt table tb
+    narrowTells = moveTells narrowTable run nt table tb
 
     abbrev pub narrowLeaves : List ℕ
-    narrowLeaves = moveLeaves narrowTable m d nt table tb
+    narrowLeaves = moveLeaves narrowTable run nt table tb
 
-  -- the text's bytes u, the columns ss and cs
-  module _ (u ss cs : List ℕ) where
+  -- the text t, the columns ss and cs
+  module _ (t : Word) (ss cs : List ℕ) where
     abbrev pub scanTells : Told
     scanTells =
-        tells (λ X. scanRefusal X tb (mapped m u) ss cs)
-        (λ X. flag (accepted X (mapped m u)) ∷ farthest X (mapped m u) ∷ countAt X (mapped m u) (length (mapped m u)) ∷ probes X (mapped m u) ∷ [])
-        (dictionary m d)
+        tells (λ X. scanRefusal X tb t ss cs)
+        (λ X. flag (accepted X t) ∷ farthest X t ∷ countAt X t (length t) ∷ probes X t ∷ []) run
 
     abbrev pub scanLeavesStates : List ℕ
-    scanLeavesStates =
-        leaves (λ X. scanRefusal X tb (mapped m u) ss cs) (λ X. over (stateColumn X (mapped m u)) ss) ss (dictionary m d)
+    scanLeavesStates = leaves (λ X. scanRefusal X tb t ss cs) (λ X. over (stateColumn X t) ss) ss run
 
     abbrev pub scanLeavesCounts : List ℕ
-    scanLeavesCounts =
-        leaves (λ X. scanRefusal X tb (mapped m u) ss cs) (λ X. over (countColumn X (mapped m u)) cs) cs (dictionary m d)
+    scanLeavesCounts = leaves (λ X. scanRefusal X tb t ss cs) (λ X. over (countColumn X t) cs) cs run
 
     -- the reading buffer
     module _ (buffer : List ℕ) where
       abbrev pub firstTells : Told
-      firstTells =
-          tells (λ X. firstRefusal X tb (mapped m u) ss cs buffer) (λ X. lengthOf (head? (readings X (mapped m u)))) (dictionary m d)
+      firstTells = tells (λ X. firstRefusal X tb t ss cs buffer) (λ X. lengthOf (head? (readings X t))) run
 
       abbrev pub firstLeaves : List ℕ
-      firstLeaves =
-          leaves (λ X. firstRefusal X tb (mapped m u) ss cs buffer) (λ X. listed (head? (readings X (mapped m u))) buffer) buffer
-          (dictionary m d)
+      firstLeaves = leaves (λ X. firstRefusal X tb t ss cs buffer) (λ X. listed (head? (readings X t)) buffer) buffer run
 
       -- of which k entries are given
       module _ (k : ℕ) where
         abbrev pub nextTells : Told
-        nextTells =
-            tells (λ X. nextRefusal X tb (mapped m u) ss cs buffer k)
-            (λ X. lengthOf (nextReading X (mapped m u) (take k buffer))) (dictionary m d)
+        nextTells = tells (λ X. nextRefusal X tb t ss cs buffer k) (λ X. lengthOf (nextReading X t (take k buffer))) run
 
         abbrev pub nextLeaves : List ℕ
         nextLeaves =
-            leaves (λ X. nextRefusal X tb (mapped m u) ss cs buffer k)
-            (λ X. listed (nextReading X (mapped m u) (take k buffer)) buffer) buffer (dictionary m d)
+            leaves (λ X. nextRefusal X tb t ss cs buffer k)
+            (λ X. listed (nextReading X t (take k buffer)) buffer) buffer run
 
 -- the book check, which leaves nothing changed
-abbrev pub openedTells : Opened → Told
-openedTells (opened X start T) = answer (length X ∷ length T ∷ [])
-openedTells (shut number place) = refusal number place
-
-abbrev pub bookTells : List ℕ → List ℕ → Told
-bookTells m b = openedTells (book m b)
+abbrev pub bookTells : Opened → Told
+bookTells (opened X start T) = answer (length X ∷ length T ∷ [])
+bookTells (shut number place) = refusal number place

@@ -1,3 +1,4 @@
+pub mod Under
 pub mod Order
 pub mod Judging
 pub mod Calls

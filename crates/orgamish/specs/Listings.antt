@@ -2,7 +2,8 @@
 use mathlib.Core.List.{List, [], _∷_}
 use Prim.Native.Nat.{ℕ, zero, suc}
 use lib.ListN.{take}
-use Rattle.meaning.specs.Words.{Reading}
+use Rattle.meaning.specs.Words.{Word, Reading}
+use Rattle.records.specs.Run.{Run}
 use Rattle.records.specs.Told.{Told, answer}
 use Rattle.orgamish.specs.Calls.{firstTells, firstLeaves, nextTells, nextLeaves}
 
@@ -20,16 +21,16 @@ goOn more told [] = heard [] told
 goOn more told (written ∷ []) = heard [] told
 goOn more told (written ∷ n ∷ rest) = more n
 
-module _ (m d tb u ss cs : List ℕ) where
+module _ (run : Run) (tb : List ℕ) (t : Word) (ss cs : List ℕ) where
   -- the first k entries of the buffer are a reading; at most f calls more
   abbrev pub listingFrom : ℕ → List ℕ → ℕ → Heard
   listingFrom zero buffer k = heard (take k buffer ∷ []) (answer [])
   listingFrom (suc f) buffer k =
-      let told = nextTells m d tb u ss cs buffer k in
-      let more = goOn (listingFrom f (nextLeaves m d tb u ss cs buffer k)) told (told .values) in
+      let told = nextTells run tb t ss cs buffer k in
+      let more = goOn (listingFrom f (nextLeaves run tb t ss cs buffer k)) told (told .values) in
       heard (take k buffer ∷ more .seen) (more .last)
 
   abbrev pub listing : ℕ → List ℕ → Heard
   listing f buffer =
-      let told = firstTells m d tb u ss cs buffer in
-      goOn (listingFrom f (firstLeaves m d tb u ss cs buffer)) told (told .values)
+      let told = firstTells run tb t ss cs buffer in
+      goOn (listingFrom f (firstLeaves run tb t ss cs buffer)) told (told .values)

@@ -1,17 +1,17 @@
-// The tests that the calls share, in document 01's order: dictionary, 7, 8, 9, 10, 11.
+// The tests that the calls share, in order: 18, dictionary, 7, 8, 9, 10, 11.
 ghost use mathlib.Core.Path.{_≡_};
 ghost use Rattle.records.specs.Letters.{mapped};
-ghost use Rattle.records.specs.Run.{dictionary};
 ghost use Rattle.automaton.specs.Forms.{tableIn};
+ghost use Rattle.orgamish.specs.Under.{wordsUnder};
 ghost use Rattle.orgamish.specs.Order.{tableRefusal, scanRefusal, listRefusal};
 ghost use Rattle.orgamish.specs.Judging.{verdict};
+use crate::maps::check_words;
 use automaton::Form;
 use automaton::Judged;
 use automaton::judge_table;
 use columns::are_columns;
 use records::Dictionary;
 use records::LONGEST_TEXT;
-use records::check_dictionary;
 
 // Nothing is refused so far; or a refusal.
 pub enum Verdict {
@@ -19,11 +19,11 @@ pub enum Verdict {
     Refused { number: u16, place: u16 },
 }
 
-// The dictionary, 7, 8: of a table in either form.
+// 18, the dictionary, 7, 8: of a table in either form.
 pub fn judge_rows(map: &[u8], dict: &[u8], form: Form, table: &[u16]) -> Verdict
-    ensures { λ r. ⌜ r ≡ verdict (λ X. tableRefusal (tableIn form X) (now (table .entry))) (dictionary (now (map .entry)) (now (dict .entry))) ⌝ }
+    ensures { λ r. ⌜ r ≡ verdict (λ X. tableRefusal (tableIn form X) (now (table .entry))) (wordsUnder (now (map .entry)) (now (dict .entry))) ⌝ }
 {
-    match check_dictionary(map, dict) {
+    match check_words(map, dict) {
         Dictionary::Refused { number, place } => Verdict::Refused { number, place },
         Dictionary::Words {
             words,
@@ -52,7 +52,7 @@ pub fn judge_scan(
     states: &[u16],
     counts: &[u64],
 ) -> Verdict
-    ensures { λ r. ⌜ r ≡ verdict (λ X. scanRefusal X (now (table .entry)) (mapped (now (map .entry)) (now (text .entry))) (now (states .entry)) (now (counts .entry))) (dictionary (now (map .entry)) (now (dict .entry))) ⌝ }
+    ensures { λ r. ⌜ r ≡ verdict (λ X. scanRefusal X (now (table .entry)) (mapped (now (map .entry)) (now (text .entry))) (now (states .entry)) (now (counts .entry))) (wordsUnder (now (map .entry)) (now (dict .entry))) ⌝ }
 {
     match judge_rows(map, dict, Form::Wide, table) {
         Verdict::Refused { number, place } => Verdict::Refused { number, place },
@@ -89,7 +89,7 @@ pub fn judge_list(
     states: &[u16],
     counts: &[u64],
 ) -> Verdict
-    ensures { λ r. ⌜ r ≡ verdict (λ X. listRefusal X (now (table .entry)) (mapped (now (map .entry)) (now (text .entry))) (now (states .entry)) (now (counts .entry))) (dictionary (now (map .entry)) (now (dict .entry))) ⌝ }
+    ensures { λ r. ⌜ r ≡ verdict (λ X. listRefusal X (now (table .entry)) (mapped (now (map .entry)) (now (text .entry))) (now (states .entry)) (now (counts .entry))) (wordsUnder (now (map .entry)) (now (dict .entry))) ⌝ }
 {
     match judge_scan(map, dict, table, text, states, counts) {
         Verdict::Refused { number, place } => Verdict::Refused { number, place },

@@ -3,6 +3,7 @@ mod answers;
 mod books;
 mod judging;
 mod lists;
+mod maps;
 mod scans;
 mod tables;
 
@@ -16,6 +17,7 @@ pub use books::block;
 pub use books::check_book;
 pub use lists::first;
 pub use lists::next;
+pub use records::identity;
 pub use scans::scan;
 pub use tables::build;
 pub use tables::narrow;

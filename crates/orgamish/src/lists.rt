@@ -2,8 +2,9 @@
 ghost use mathlib.Core.Path.{_≡_};
 ghost use lib.ListN.{length};
 ghost use Rattle.meaning.specs.Words.{Word, Words};
-ghost use Rattle.records.specs.Letters.{identity as identityOf};
+ghost use Rattle.records.specs.Letters.{mapped};
 ghost use Rattle.listing.specs.Positions.{Stated};
+ghost use Rattle.orgamish.specs.Under.{wordsUnder};
 ghost use Rattle.orgamish.specs.Order.{isGiven};
 ghost use Rattle.orgamish.specs.Calls.{firstTells, firstLeaves, nextTells, nextLeaves};
 ghost use Rattle.orgamish.specs.Answers.{firstTold, nextTold};
@@ -15,10 +16,9 @@ use listing::Listed;
 use listing::first as first_reading;
 use listing::is_reading;
 use listing::next as next_reading;
-use records::identity;
 
-// Under a letter map.
-pub fn first_by(
+// The first reading is written to the first entries of a lent buffer.
+pub fn first(
     map: &[u8],
     dict: &[u8],
     table: &[u16],
@@ -28,8 +28,8 @@ pub fn first_by(
     reading: &mut [u16],
 ) -> FirstAnswer
     ensures { λ r. ⌜
-        (firstTold r ≡ firstTells (now (map .entry)) (now (dict .entry)) (now (table .entry)) (now (text .entry)) (now (states .entry)) (now (counts .entry)) (now (reading .entry)))
-        × (now (reading .exit) ≡ firstLeaves (now (map .entry)) (now (dict .entry)) (now (table .entry)) (now (text .entry)) (now (states .entry)) (now (counts .entry)) (now (reading .entry))) ⌝ }
+        (firstTold r ≡ firstTells (wordsUnder (now (map .entry)) (now (dict .entry))) (now (table .entry)) (mapped (now (map .entry)) (now (text .entry))) (now (states .entry)) (now (counts .entry)) (now (reading .entry)))
+        × (now (reading .exit) ≡ firstLeaves (wordsUnder (now (map .entry)) (now (dict .entry))) (now (table .entry)) (mapped (now (map .entry)) (now (text .entry))) (now (states .entry)) (now (counts .entry)) (now (reading .entry))) ⌝ }
 {
     match judge_list(map, dict, table, text, states, counts) {
         Verdict::Refused { number, place } => FirstAnswer::Refused { number, place },
@@ -60,8 +60,8 @@ fn is_given(table: &[u16], states: &[u16], m: usize, reading: &[u16], given: usi
     is_reading(table, states, m, reading, given)
 }
 
-// Under a letter map.
-pub fn next_by(
+// The reading after the one that the first entries are, so many as are given.
+pub fn next(
     map: &[u8],
     dict: &[u8],
     table: &[u16],
@@ -72,8 +72,8 @@ pub fn next_by(
     given: usize,
 ) -> NextAnswer
     ensures { λ r. ⌜
-        (nextTold r ≡ nextTells (now (map .entry)) (now (dict .entry)) (now (table .entry)) (now (text .entry)) (now (states .entry)) (now (counts .entry)) (now (reading .entry)) given)
-        × (now (reading .exit) ≡ nextLeaves (now (map .entry)) (now (dict .entry)) (now (table .entry)) (now (text .entry)) (now (states .entry)) (now (counts .entry)) (now (reading .entry)) given) ⌝ }
+        (nextTold r ≡ nextTells (wordsUnder (now (map .entry)) (now (dict .entry))) (now (table .entry)) (mapped (now (map .entry)) (now (text .entry))) (now (states .entry)) (now (counts .entry)) (now (reading .entry)) given)
+        × (now (reading .exit) ≡ nextLeaves (wordsUnder (now (map .entry)) (now (dict .entry))) (now (table .entry)) (mapped (now (map .entry)) (now (text .entry))) (now (states .entry)) (now (counts .entry)) (now (reading .entry)) given) ⌝ }
 {
     match judge_list(map, dict, table, text, states, counts) {
         Verdict::Refused { number, place } => NextAnswer::Refused { number, place },
@@ -96,39 +96,4 @@ pub fn next_by(
             }
         }
     }
-}
-
-// The first reading is written to the first entries of a lent buffer.
-pub fn first(
-    dict: &[u8],
-    table: &[u16],
-    text: &[u8],
-    states: &[u16],
-    counts: &[u64],
-    reading: &mut [u16],
-) -> FirstAnswer
-    ensures { λ r. ⌜
-        (firstTold r ≡ firstTells identityOf (now (dict .entry)) (now (table .entry)) (now (text .entry)) (now (states .entry)) (now (counts .entry)) (now (reading .entry)))
-        × (now (reading .exit) ≡ firstLeaves identityOf (now (dict .entry)) (now (table .entry)) (now (text .entry)) (now (states .entry)) (now (counts .entry)) (now (reading .entry))) ⌝ }
-{
-    let map = identity();
-    first_by(&map, dict, table, text, states, counts, reading)
-}
-
-// The reading after the one that the first entries are, so many as are given.
-pub fn next(
-    dict: &[u8],
-    table: &[u16],
-    text: &[u8],
-    states: &[u16],
-    counts: &[u64],
-    reading: &mut [u16],
-    given: usize,
-) -> NextAnswer
-    ensures { λ r. ⌜
-        (nextTold r ≡ nextTells identityOf (now (dict .entry)) (now (table .entry)) (now (text .entry)) (now (states .entry)) (now (counts .entry)) (now (reading .entry)) given)
-        × (now (reading .exit) ≡ nextLeaves identityOf (now (dict .entry)) (now (table .entry)) (now (text .entry)) (now (states .entry)) (now (counts .entry)) (now (reading .entry)) given) ⌝ }
-{
-    let map = identity();
-    next_by(&map, dict, table, text, states, counts, reading, given)
 }

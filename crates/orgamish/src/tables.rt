@@ -1,26 +1,25 @@
 // Tables: built, and moved from one form to the other.
 ghost use mathlib.Core.Path.{_≡_};
-ghost use Rattle.records.specs.Letters.{identity as identityOf};
 ghost use Rattle.automaton.specs.Forms.{tableIn};
+ghost use Rattle.orgamish.specs.Under.{wordsUnder};
 ghost use Rattle.orgamish.specs.Calls.{writeTells, writeLeaves, moveTells, moveLeaves, buildTells, buildLeaves, widenTells, widenLeaves, narrowTells, narrowLeaves};
 ghost use Rattle.orgamish.specs.Answers.{buildTold};
 use crate::answers::BuildAnswer;
 use crate::judging::Verdict;
 use crate::judging::judge_rows;
+use crate::maps::check_words;
 use automaton::Form;
 use automaton::Wrote;
 use automaton::write_table;
 use records::Dictionary;
-use records::check_dictionary;
-use records::identity;
 
-// Under a letter map, in either form.
-pub fn build_in(map: &[u8], dict: &[u8], form: Form, table: &mut [u16]) -> BuildAnswer
+// In either form.
+fn build_in(map: &[u8], dict: &[u8], form: Form, table: &mut [u16]) -> BuildAnswer
     ensures { λ r. ⌜
-        (buildTold r ≡ writeTells (tableIn form) (now (map .entry)) (now (dict .entry)) (now (table .entry)))
-        × (now (table .exit) ≡ writeLeaves (tableIn form) (now (map .entry)) (now (dict .entry)) (now (table .entry))) ⌝ }
+        (buildTold r ≡ writeTells (tableIn form) (wordsUnder (now (map .entry)) (now (dict .entry))) (now (table .entry)))
+        × (now (table .exit) ≡ writeLeaves (tableIn form) (wordsUnder (now (map .entry)) (now (dict .entry))) (now (table .entry))) ⌝ }
 {
-    match check_dictionary(map, dict) {
+    match check_words(map, dict) {
         Dictionary::Refused { number, place } => BuildAnswer::Refused { number, place },
         Dictionary::Words {
             words,
@@ -50,8 +49,8 @@ fn move_in(
     table: &mut [u16],
 ) -> BuildAnswer
     ensures { λ r. ⌜
-        (buildTold r ≡ moveTells (tableIn form) (now (map .entry)) (now (dict .entry)) (now (table .entry)) (tableIn other) (now (input .entry)))
-        × (now (table .exit) ≡ moveLeaves (tableIn form) (now (map .entry)) (now (dict .entry)) (now (table .entry)) (tableIn other) (now (input .entry))) ⌝ }
+        (buildTold r ≡ moveTells (tableIn form) (wordsUnder (now (map .entry)) (now (dict .entry))) (now (table .entry)) (tableIn other) (now (input .entry)))
+        × (now (table .exit) ≡ moveLeaves (tableIn form) (wordsUnder (now (map .entry)) (now (dict .entry))) (now (table .entry)) (tableIn other) (now (input .entry))) ⌝ }
 {
     match judge_rows(map, dict, other, input) {
         Verdict::Refused { number, place } => BuildAnswer::Refused { number, place },
@@ -60,31 +59,28 @@ fn move_in(
 }
 
 // The table that a dictionary gives is written to the first numbers of a lent one.
-pub fn build(dict: &[u8], table: &mut [u16]) -> BuildAnswer
+pub fn build(map: &[u8], dict: &[u8], table: &mut [u16]) -> BuildAnswer
     ensures { λ r. ⌜
-        (buildTold r ≡ buildTells identityOf (now (dict .entry)) (now (table .entry)))
-        × (now (table .exit) ≡ buildLeaves identityOf (now (dict .entry)) (now (table .entry))) ⌝ }
+        (buildTold r ≡ buildTells (wordsUnder (now (map .entry)) (now (dict .entry))) (now (table .entry)))
+        × (now (table .exit) ≡ buildLeaves (wordsUnder (now (map .entry)) (now (dict .entry))) (now (table .entry))) ⌝ }
 {
-    let map = identity();
-    build_in(&map, dict, Form::Wide, table)
+    build_in(map, dict, Form::Wide, table)
 }
 
 // A table stored with seven numbers a row is written with eight.
-pub fn widen(dict: &[u8], narrow: &[u16], table: &mut [u16]) -> BuildAnswer
+pub fn widen(map: &[u8], dict: &[u8], narrow: &[u16], table: &mut [u16]) -> BuildAnswer
     ensures { λ r. ⌜
-        (buildTold r ≡ widenTells identityOf (now (dict .entry)) (now (table .entry)) (now (narrow .entry)))
-        × (now (table .exit) ≡ widenLeaves identityOf (now (dict .entry)) (now (table .entry)) (now (narrow .entry))) ⌝ }
+        (buildTold r ≡ widenTells (wordsUnder (now (map .entry)) (now (dict .entry))) (now (table .entry)) (now (narrow .entry)))
+        × (now (table .exit) ≡ widenLeaves (wordsUnder (now (map .entry)) (now (dict .entry))) (now (table .entry)) (now (narrow .entry))) ⌝ }
 {
-    let map = identity();
-    move_in(&map, dict, Form::Narrow, narrow, Form::Wide, table)
+    move_in(map, dict, Form::Narrow, narrow, Form::Wide, table)
 }
 
 // .. and one of eight with seven.
-pub fn narrow(dict: &[u8], table: &[u16], narrow: &mut [u16]) -> BuildAnswer
+pub fn narrow(map: &[u8], dict: &[u8], table: &[u16], narrow: &mut [u16]) -> BuildAnswer
     ensures { λ r. ⌜
-        (buildTold r ≡ narrowTells identityOf (now (dict .entry)) (now (table .entry)) (now (narrow .entry)))
-        × (now (narrow .exit) ≡ narrowLeaves identityOf (now (dict .entry)) (now (table .entry)) (now (narrow .entry))) ⌝ }
+        (buildTold r ≡ narrowTells (wordsUnder (now (map .entry)) (now (dict .entry))) (now (table .entry)) (now (narrow .entry)))
+        × (now (narrow .exit) ≡ narrowLeaves (wordsUnder (now (map .entry)) (now (dict .entry))) (now (table .entry)) (now (narrow .entry))) ⌝ }
 {
-    let map = identity();
-    move_in(&map, dict, Form::Wide, table, Form::Narrow, narrow)
+    move_in(map, dict, Form::Wide, table, Form::Narrow, narrow)
 }

@@ -14,10 +14,10 @@ use records::block_at;
 const POSITIONS: usize = 4097;
 
 // Prints the line of block n, or a refusal. Tells whether the text was scanned.
-fn print_block(n: u16, dict: &[u8], table: &[u16], text: &[u8]) -> bool {
+fn print_block(n: u16, map: &[u8], dict: &[u8], table: &[u16], text: &[u8]) -> bool {
     let mut states = [0u16; POSITIONS];
     let mut counts = [0u64; POSITIONS];
-    match scan(dict, table, text, &mut states, &mut counts) {
+    match scan(map, dict, table, text, &mut states, &mut counts) {
         ScanAnswer::Refused { number, place } => {
             print_refusal(number, place);
             false
@@ -35,7 +35,7 @@ fn print_block(n: u16, dict: &[u8], table: &[u16], text: &[u8]) -> bool {
 }
 
 // The lines of the block records from an offset on, where the dictionary of so many words ends.
-pub fn print_blocks(book: &[u8], start: usize, words: u16, table: &[u16])
+pub fn print_blocks(map: &[u8], book: &[u8], start: usize, words: u16, table: &[u16])
     requires { ⌜ (start ≤ length (now book)) × (length (now book) ≤ longestBook) × (words ≤ mostWords) ⌝ }
 {
     let mut blocks: u16 = 0;
@@ -53,7 +53,7 @@ pub fn print_blocks(book: &[u8], start: usize, words: u16, table: &[u16])
             BlockRecord::Text { len } => {
                 let from = at + 4;
                 let to = from + len;
-                if !print_block(blocks, &book[..start], table, &book[from..to]) {
+                if !print_block(blocks, map, &book[..start], table, &book[from..to]) {
                     return;
                 }
                 blocks = blocks + 1;

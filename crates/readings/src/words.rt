@@ -7,16 +7,16 @@ use super::lines::print_refusal;
 use orgamish::BuildAnswer;
 use orgamish::MOST_NUMBERS;
 use orgamish::build;
+use orgamish::identity;
 use records::Dictionary;
 use records::book_words;
-use records::identity;
 
 // The lines of a book whose block records start at an offset, after so many words.
-fn print_readings(book: &[u8], start: usize, words: u16)
+fn print_readings(map: &[u8], book: &[u8], start: usize, words: u16)
     requires { ⌜ (start ≤ length (now book)) × (length (now book) ≤ longestBook) × (words ≤ mostWords) ⌝ }
 {
     let mut table = [0u16; MOST_NUMBERS];
-    match build(&book[..start], &mut table) {
+    match build(map, &book[..start], &mut table) {
         BuildAnswer::Refused { number, place } => {
             print_refusal(number, place);
         }
@@ -25,7 +25,7 @@ fn print_readings(book: &[u8], start: usize, words: u16)
             states: _,
             longest: _,
         } => {
-            print_blocks(book, start, words, &table);
+            print_blocks(map, book, start, words, &table);
         }
     }
 }
@@ -41,7 +41,7 @@ pub fn print_book(book: &[u8]) {
             letters: _,
             end,
         } => {
-            print_readings(book, end as usize, words);
+            print_readings(&map, book, end as usize, words);
         }
     }
 }

@@ -10,7 +10,7 @@ use Rattle.meaning.specs.Numbers.{letterValues}
 use Rattle.meaning.specs.Plain.{Storable, Allowed, LettersBelow}
 use Rattle.meaning.specs.Words.{Word as Letters, Words, word, total}
 use Rattle.meaning.proofs.Find.{once-distinct}
-use Rattle.records.specs.Letters.{letter, part}
+use Rattle.records.specs.Letters.{letter, part, mapped}
 use Rattle.records.specs.Record.{recordAt, wordLen, wordAt}
 use Rattle.records.specs.Run.{ran, run, dictionary, pastWords}
 use Rattle.records.specs.Stored.{Stands, stop, step, place, Holds}
@@ -19,10 +19,10 @@ use Rattle.records.proofs.Bytes.{part-length, mapped-at, mapped-below}
 use Rattle.records.proofs.Records.{FitsWord, word-fits, word-size, past-next}
 use Rattle.records.proofs.Run.{stands-end, Good, Ended, Ends, run-ended}
 
-ended : (inBook : Bool) (m b : List ℕ) {X : Words} {at : ℕ} → run inBook m b ≡ ran X at → Ended m b inBook X at
+ended : (inBook : Bool) (m b : List ℕ) {X : Words} {at : ℕ} → run inBook (mapped m) b ≡ ran X at → Ended m b inBook X at
 ended inBook m b e = subst (Ends m b inBook) e (run-ended m b inBook)
 
-pub accepted : (inBook : Bool) (m b : List ℕ) {X : Words} {at : ℕ} → run inBook m b ≡ ran X at → Good m b X at
+pub accepted : (inBook : Bool) (m b : List ℕ) {X : Words} {at : ℕ} → run inBook (mapped m) b ≡ ran X at → Good m b X at
 accepted inBook m b e = ended inBook m b e .good
 
 -- a dictionary by itself is its records and nothing else
@@ -30,13 +30,13 @@ pub whole : (m b : List ℕ) {X : Words} {at : ℕ} → dictionary m b ≡ ran X
 whole m b e = ended false m b e .whole refl
 
 -- word k's record stands at its place
-here : (m b : List ℕ) (p n : ℕ) → recordAt b p ≡ Word n → Holds m b p (wordAt m b p n)
+here : (m b : List ℕ) (p n : ℕ) → recordAt b p ≡ Word n → Holds m b p (wordAt (mapped m) b p n)
 here m b p n q =
     let f : FitsWord b p n = word-fits q in
-    let l : length (wordAt m b p n) ≡ n = word-size m b p n q in
+    let l : length (wordAt (mapped m) b p n) ≡ n = word-size m b p n q in
     record {
       record-here = q ∙ ap Word (sym l);
-      letters = ap (wordAt m b p) (sym l);
+      letters = ap (wordAt (mapped m) b p) (sym l);
       nonempty = omega (arith, f .nonempty);
       short = omega (arith, f .short);
       within = omega (arith, f .within);
@@ -46,10 +46,10 @@ stands-at : {m b : List ℕ} {e p : ℕ} {X : Words} → Stands m b e p X → (k
 stands-at stop k h = absurd (omega arith)
 stands-at {m} {b} {p = p} (step {n = n} {X} q s) zero h =
     let i : p ≡ p + (3 * 0 + 0) = omega arith in
-    subst (λ (j : ℕ). Holds m b j (wordAt m b p n)) i (here m b p n q)
+    subst (λ (j : ℕ). Holds m b j (wordAt (mapped m) b p n)) i (here m b p n q)
 stands-at {m} {b} {p = p} (step {n = n} {X} q s) (suc k) h =
     let l = word-size m b p n q in
-    let i : p + 3 + n + place X k ≡ p + place (wordAt m b p n ∷ X) (suc k) = omega arith in
+    let i : p + 3 + n + place X k ≡ p + place (wordAt (mapped m) b p n ∷ X) (suc k) = omega arith in
     subst (λ (j : ℕ). Holds m b j (word X k)) i (stands-at s k (omega arith))
 
 pub word-stands : {m b : List ℕ} {X : Words} {at : ℕ} → Good m b X at → (k : ℕ) → k < length X → Holds m b (place X k) (word X k)

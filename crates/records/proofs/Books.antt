@@ -8,6 +8,7 @@ use lib.Dec.{ltb}
 use borrow.Author.Tests.{ltb-false}
 use Rattle.meaning.specs.Numbers.{longestBook}
 use Rattle.meaning.specs.Words.{Words}
+use Rattle.records.specs.Letters.{mapped}
 use Rattle.records.specs.Run.{Run, ran, refused, run, bookWords}
 use Rattle.records.specs.Book.{Blocks, texts, bad, blocks, Opened, opened, shut, withWords, withBlocks, book}
 use Rattle.records.specs.Told.{blocksTell, bookTells}
@@ -18,7 +19,7 @@ use Rattle.records.proofs.Run.{Good, Ends, run-ended}
 -- the words of a book
 pub record GoodWords (m b : List ℕ) (X : Words) (at : ℕ) : Type 0 where
   pub size : length b ≤ longestBook
-  pub runs : run true m b ≡ ran X at
+  pub runs : run true (mapped m) b ≡ ran X at
   pub good : Good m b X at
 
 abbrev Good-words : List ℕ → List ℕ → Run → Type 0
@@ -27,9 +28,9 @@ Good-words m b (refused number place) = Unit
 
 words-good : (m b : List ℕ) → Good-words m b (bookWords m b)
 words-good m b =
-    picked (Good-words m b) (ltb longestBook (length b)) (λ e. tt) (λ e. on (ltb-false _ _ e) (run true m b) refl (run-ended m b true))
+    picked (Good-words m b) (ltb longestBook (length b)) (λ e. tt) (λ e. on (ltb-false _ _ e) (run true (mapped m) b) refl (run-ended m b true))
   where
-    on : length b ≤ longestBook → (r : Run) → run true m b ≡ r → Ends m b true r → Good-words m b r
+    on : length b ≤ longestBook → (r : Run) → run true (mapped m) b ≡ r → Ends m b true r → Good-words m b r
     on h (ran X at) e d = record { size = h; runs = e; good = d .good }
     on h (refused number place) e d = tt
 

@@ -8,6 +8,7 @@ use lib.ListN.{length}
 use Rattle.meaning.specs.Numbers.{mostWords}
 use Rattle.meaning.specs.Words.{Words, snoc}
 use Rattle.meaning.proofs.Lists.{snoc-length}
+use Rattle.records.specs.Letters.{mapped}
 use Rattle.records.specs.Record.{wordAt, blockAt, textAt}
 use Rattle.records.specs.Run.{recordAfter, Run, onRecord, runFrom, run}
 use Rattle.records.specs.Book.{Blocks, onBlock, blocksFrom, blocks}
@@ -20,25 +21,25 @@ use Rattle.records.proofs.Run.{Joins, joins, Good, good-none, good-more
 
 module _ (inBook : Bool) (m b : List ℕ) (g : ℕ) where
   more-records : (f : ℕ) (X : Words) (at : ℕ) → length X + f ≡ suc mostWords → Good m b X at
-      → runFrom inBook m b (f + g) X at ≡ runFrom inBook m b f X at
+      → runFrom inBook (mapped m) b (f + g) X at ≡ runFrom inBook (mapped m) b f X at
   more-records zero X at l h = absurd (omega (arith, h .few))
   more-records (suc f) X at l h =
       let e : suc f + g ≡ suc (f + g) = omega arith in
       rw e (on
-      (λ n j. more-records f _ _ (omega (arith, snoc-length X (wordAt m b at n))) (good-more m b X at n j h))
-      (recordAfter m b X at) refl)
+      (λ n j. more-records f _ _ (omega (arith, snoc-length X (wordAt (mapped m) b at n))) (good-more m b X at n j h))
+      (recordAfter (mapped m) b X at) refl)
     where
       more : ℕ → ℕ → Run
-      more k n = runFrom inBook m b k (snoc X (wordAt m b at n)) (at + 3 + n)
+      more k n = runFrom inBook (mapped m) b k (snoc X (wordAt (mapped m) b at n)) (at + 3 + n)
 
-      on : ((n : ℕ) → Joins m b X at n → more (f + g) n ≡ more f n) → (r : Record) → recordAfter m b X at ≡ r
+      on : ((n : ℕ) → Joins m b X at n → more (f + g) n ≡ more f n) → (r : Record) → recordAfter (mapped m) b X at ≡ r
           → onRecord inBook X at (more (f + g)) r ≡ onRecord inBook X at (more f) r
       on go word.End j = refl
       on go word.Block j = refl
       on go (word.Word n) j = go n (joins m b X at n j)
       on go (word.Bad number) j = refl
 
-  pub run-enough : runFrom inBook m b (suc mostWords + g) [] 0 ≡ run inBook m b
+  pub run-enough : runFrom inBook (mapped m) b (suc mostWords + g) [] 0 ≡ run inBook (mapped m) b
   unfolding run
   run-enough = more-records (suc mostWords) [] 0 refl (good-none m b)
 

@@ -10,4 +10,5 @@ pub mod Stored
 pub mod Determined
 pub mod Books
 pub mod Enough
+pub mod Maps
 pub mod Examples

@@ -10,7 +10,7 @@ use borrow.Author.Tests.{leb-true, ltb-false, eqb-false, lt-leb, le-ltb, eq-eqb,
 use Rattle.meaning.specs.Numbers.{longestWord, longestText}
 use Rattle.meaning.specs.Words.{same}
 use Rattle.meaning.proofs.Find.{same-true, not-same}
-use Rattle.records.specs.Letters.{part}
+use Rattle.records.specs.Letters.{part, mapped}
 use Rattle.records.specs.Record.{wordMark, blockMark, marked, recordAt, wordLen, Measured, wordAt, blockAt}
 use Rattle.records.specs.Run.{pastWords}
 use Rattle.records.specs.declared.record.Record.{Record}
@@ -64,7 +64,7 @@ record-fits b at =
 pub word-fits : {b : List ℕ} {at n : ℕ} → recordAt b at ≡ Word n → FitsWord b at n
 word-fits {b} {at} {n} e = subst (Word-fits b at) e (record-fits b at)
 
-pub word-size : (m b : List ℕ) (at n : ℕ) → recordAt b at ≡ Word n → length (wordAt m b at n) ≡ n
+pub word-size : (m b : List ℕ) (at n : ℕ) → recordAt b at ≡ Word n → length (wordAt (mapped m) b at n) ≡ n
 word-size m b at n e = let f : FitsWord b at n = word-fits e in mapped-length m b (at + 3) n (f .within)
 
 pub word-end : (b : List ℕ) (at : ℕ) → recordAt b at ≡ End → length b ≤ at

@@ -15,6 +15,7 @@ use Rattle.meaning.specs.Words.{Word as Letters, Words, snoc, find, has, word, 
 use Rattle.meaning.proofs.Find.{has-false, find-kept, find-new}
 use Rattle.meaning.proofs.Lists.{snoc-length}
 use Rattle.meaning.proofs.States.{total-append}
+use Rattle.records.specs.Letters.{mapped}
 use Rattle.records.specs.Record.{recordAt, wordAt}
 use Rattle.records.specs.Run.{joined, recordAfter, Run, ran, refused, onRecord, runFrom, run}
 use Rattle.records.specs.Stored.{Stands, stop, step}
@@ -24,7 +25,7 @@ use Rattle.records.proofs.Cases.{picked}
 use Rattle.records.proofs.Records.{FitsWord, word-fits, word-size, word-end}
 
 stands-more : {m b : List ℕ} {e p : ℕ} (n : ℕ) {X : Words} → Stands m b e p X → recordAt b e ≡ Word n
-    → Stands m b (e + 3 + n) p (snoc X (wordAt m b e n))
+    → Stands m b (e + 3 + n) p (snoc X (wordAt (mapped m) b e n))
 stands-more n stop r = step r stop
 stands-more n (step q s) r = step q (stands-more n s r)
 
@@ -51,7 +52,7 @@ pub record Joins (m b : List ℕ) (X : Words) (at n : ℕ) : Type 0 where
   pub stands : recordAt b at ≡ Word n
   pub few : length X < mostWords
   pub small : total X + n ≤ mostLetters
-  pub new : has X (wordAt m b at n) ≡ false
+  pub new : has X (wordAt (mapped m) b at n) ≡ false
 
 abbrev Joins-if : List ℕ → List ℕ → Words → ℕ → Record → Type 0
 Joins-if m b X at End = length b ≤ at
@@ -59,21 +60,21 @@ Joins-if m b X at Block = Unit
 Joins-if m b X at (Word n) = Joins m b X at n
 Joins-if m b X at (Bad number) = Unit
 
-joins-if : (m b : List ℕ) (X : Words) (at : ℕ) (r : Record) → recordAt b at ≡ r → Joins-if m b X at (joined m b X at r)
+joins-if : (m b : List ℕ) (X : Words) (at : ℕ) (r : Record) → recordAt b at ≡ r → Joins-if m b X at (joined (mapped m) b X at r)
 joins-if m b X at End e = word-end b at e
 joins-if m b X at Block e = tt
 joins-if m b X at (Word n) e =
     let P = Joins-if m b X at in
     picked P (leb mostWords (length X)) (λ q. tt)
     (λ many. picked P (ltb mostLetters (total X + n)) (λ q. tt)
-    (λ long. picked P (has X (wordAt m b at n)) (λ q. tt)
+    (λ long. picked P (has X (wordAt (mapped m) b at n)) (λ q. tt)
     (λ new. record { stands = e; few = leb-false mostWords _ many; small = ltb-false mostLetters _ long; new = new })))
 joins-if m b X at (Bad number) e = tt
 
-pub joins : (m b : List ℕ) (X : Words) (at n : ℕ) → recordAfter m b X at ≡ Word n → Joins m b X at n
+pub joins : (m b : List ℕ) (X : Words) (at n : ℕ) → recordAfter (mapped m) b X at ≡ Word n → Joins m b X at n
 joins m b X at n e = subst (Joins-if m b X at) e (joins-if m b X at (recordAt b at) refl)
 
-at-end : (m b : List ℕ) (X : Words) (at : ℕ) → recordAfter m b X at ≡ End → length b ≤ at
+at-end : (m b : List ℕ) (X : Words) (at : ℕ) → recordAfter (mapped m) b X at ≡ End → length b ≤ at
 at-end m b X at e = subst (Joins-if m b X at) e (joins-if m b X at (recordAt b at) refl)
 
 -- what holds of words read so far, up to an offset
@@ -94,9 +95,9 @@ module _ (m b : List ℕ) where
     within = omega arith;
   }
 
-  pub good-more : (X : Words) (at n : ℕ) → Joins m b X at n → Good m b X at → Good m b (snoc X (wordAt m b at n)) (at + 3 + n)
+  pub good-more : (X : Words) (at n : ℕ) → Joins m b X at n → Good m b X at → Good m b (snoc X (wordAt (mapped m) b at n)) (at + 3 + n)
   good-more X at n j g =
-      let w = wordAt m b at n in
+      let w = wordAt (mapped m) b at n in
       let f : FitsWord b at n = word-fits (j .stands) in
       record {
         stands = stands-more n (g .stands) (j .stands);
@@ -117,26 +118,26 @@ module _ (m b : List ℕ) where
 
   -- by any bound on the records that the words so far leave room for
   run-ends : (inBook : Bool) (f : ℕ) (X : Words) (at : ℕ) → length X + f ≡ suc mostWords → Good m b X at
-      → Ends inBook (runFrom inBook m b f X at)
+      → Ends inBook (runFrom inBook (mapped m) b f X at)
   run-ends inBook zero X at l g = absurd (omega (arith, g .few))
   run-ends inBook (suc f) X at l g =
       on
-      (λ n j. run-ends inBook f _ _ (omega (arith, snoc-length X (wordAt m b at n))) (good-more X at n j g))
-      (recordAfter m b X at) refl
+      (λ n j. run-ends inBook f _ _ (omega (arith, snoc-length X (wordAt (mapped m) b at n))) (good-more X at n j g))
+      (recordAfter (mapped m) b X at) refl
     where
       more : ℕ → Run
-      more n = runFrom inBook m b f (snoc X (wordAt m b at n)) (at + 3 + n)
+      more n = runFrom inBook (mapped m) b f (snoc X (wordAt (mapped m) b at n)) (at + 3 + n)
 
       not-both : {A : Type 0} (t : Bool) → t ≡ true → t ≡ false → A
       not-both t p q = let z : _≡_ {A = ℕ} 0 1 = cc in absurd (omega arith)
 
-      on : ((n : ℕ) → Joins m b X at n → Ends inBook (more n)) → (r : Record) → recordAfter m b X at ≡ r
+      on : ((n : ℕ) → Joins m b X at n → Ends inBook (more n)) → (r : Record) → recordAfter (mapped m) b X at ≡ r
           → Ends inBook (onRecord inBook X at more r)
       on go End e = let l = at-end m b X at e in record { good = g; whole = λ q. omega (arith, g .within) }
       on go Block e = picked (Ends inBook) inBook (λ p. record { good = g; whole = λ q. not-both inBook p q }) (λ q. tt)
       on go (Word n) e = go n (joins m b X at n e)
       on go (Bad number) e = tt
 
-  pub run-ended : (inBook : Bool) → Ends inBook (run inBook m b)
+  pub run-ended : (inBook : Bool) → Ends inBook (run inBook (mapped m) b)
   unfolding run
   run-ended inBook = run-ends inBook (suc mostWords) [] 0 refl good-none

@@ -104,7 +104,7 @@ module _ (b : List ℕ) (p : ℕ) (w : Letters) (rest : List ℕ) (e : drop p b 
 module _ (m b : List ℕ) where
   -- the run over the records of raw words, after the words X
   reads : (raw : Words) (f : ℕ) (X : Words) (p : ℕ) → length raw < f → p ≤ length b → drop p b ≡ wordRecords raw
-      → Storable (X ++ map (mapped m) raw) → runFrom false m b f X p ≡ ran (X ++ map (mapped m) raw) (length b)
+      → Storable (X ++ map (mapped m) raw) → runFrom false (mapped m) b f X p ≡ ran (X ++ map (mapped m) raw) (length b)
   reads raw zero X p l h e s = absurd (omega arith)
   reads [] (suc f) X p l h e s =
       let z : length b ≤ p = omega (arith, ap length e, length-drop p b) in
@@ -120,16 +120,16 @@ module _ (m b : List ℕ) where
       let long : length v ≡ n = length-map w _ in
       let v-some : 1 ≤ length v = rw v-here at (s .dictionary .nonempty (length X) i) in
       let v-short : length v ≤ longestWord = rw v-here at (s .short (length X) i) in
-      let v-is : wordAt m b p n ≡ v = ap (mapped m) (reads-part b p w (wordRecords raw) e) in
+      let v-is : wordAt (mapped m) b p n ≡ v = ap (mapped m) (reads-part b p w (wordRecords raw) e) in
       let few : length X < mostWords = omega (arith, s .few) in
       let small : total X + n ≤ mostLetters = omega (arith, s .small, total-append X (v ∷ Y)) in
-      let new : has X (wordAt m b p n) ≡ false = ap (has X) v-is ∙ new-word X v Y (s .dictionary .distinct) in
+      let new : has X (wordAt (mapped m) b p n) ≡ false = ap (has X) v-is ∙ new-word X v Y (s .dictionary .distinct) in
       let here : recordAt b p ≡ Word n = reads-record b p w (wordRecords raw) e (omega arith) (omega arith) in
-      let after : recordAfter m b X p ≡ Word n = ap (joined m b X p) here ∙ simp (lt-leb _ _ few, le-ltb _ _ small, new) in
+      let after : recordAfter (mapped m) b X p ≡ Word n = ap (joined (mapped m) b X p) here ∙ simp (lt-leb _ _ few, le-ltb _ _ small, new) in
       let regrouped : snoc X v ++ Y ≡ X ++ v ∷ Y = append-assoc X (v ∷ []) Y in
       let fits = room b p w (wordRecords raw) e in
-      ap (onRecord false X p (λ k. runFrom false m b f (snoc X (wordAt m b p k)) (p + 3 + k))) after
-      ∙ ap (λ (u : Letters). runFrom false m b f (snoc X u) (p + 3 + n)) v-is
+      ap (onRecord false X p (λ k. runFrom false (mapped m) b f (snoc X (wordAt (mapped m) b p k)) (p + 3 + k))) after
+      ∙ ap (λ (u : Letters). runFrom false (mapped m) b f (snoc X u) (p + 3 + n)) v-is
       ∙ reads raw f (snoc X v) (p + 3 + n) (omega arith) (omega arith) (reads-rest b p w (wordRecords raw) e) (rw regrouped s)
       ∙ ap (λ (Z : Words). ran Z (length b)) regrouped
 
@@ -141,7 +141,7 @@ dictionary-reads m raw s =
     reads m (wordRecords raw) raw (suc mostWords) [] 0 (omega (arith, s .few, length-map raw (mapped m))) (omega arith) refl s
 
 -- the bytes of a book before its first block record are, as a dictionary by themselves, its dictionary
-pub own-dictionary : (m b : List ℕ) {X : Words} {at : ℕ} → run true m b ≡ ran X at → dictionary m (take at b) ≡ ran X at
+pub own-dictionary : (m b : List ℕ) {X : Words} {at : ℕ} → run true (mapped m) b ≡ ran X at → dictionary m (take at b) ≡ ran X at
 own-dictionary m b {X} {at} e =
     let g : Good m b X at = accepted true m b e in
     let r : Raw m b 0 at X = raw-words (g .stands) in

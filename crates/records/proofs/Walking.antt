@@ -9,6 +9,7 @@ use Rattle.meaning.specs.Numbers.{mostWords}
 use Rattle.meaning.specs.Words.{Words, snoc, total}
 use Rattle.meaning.proofs.Lists.{snoc-length}
 use Rattle.meaning.proofs.States.{total-append}
+use Rattle.records.specs.Letters.{mapped}
 use Rattle.records.specs.Record.{wordAt}
 use Rattle.records.specs.Run.{recordAfter, Run, ran, refused, onRecord, runFrom, run}
 use Rattle.records.specs.Stored.{Before}
@@ -24,7 +25,7 @@ pub record Walking (inBook : Bool) (m b : List ℕ) (words letters at : ℕ) : T
   pub good : Good m b X at
   pub count : length X ≡ words
   pub sum : total X ≡ letters
-  pub goes : run inBook m b ≡ runFrom inBook m b (suc mostWords - words) X at
+  pub goes : run inBook (mapped m) b ≡ runFrom inBook (mapped m) b (suc mostWords - words) X at
 
 pub starts : (inBook : Bool) (m b : List ℕ) → Walking inBook m b 0 0 0
 unfolding run
@@ -38,37 +39,37 @@ module _ {inBook : Bool} {m b : List ℕ} {words letters at : ℕ} (w : Walking 
   offset = omega (arith, stands-end (w .good .stands), w .count, w .sum)
 
   pub more : ℕ → Run
-  more n = runFrom inBook m b (mostWords - words) (snoc (w .X) (wordAt m b at n)) (at + 3 + n)
+  more n = runFrom inBook (mapped m) b (mostWords - words) (snoc (w .X) (wordAt (mapped m) b at n)) (at + 3 + n)
 
   -- what the run comes to, by the record here
-  comes : (r : Record) → r ≡ recordAfter m b (w .X) at → run inBook m b ≡ onRecord inBook (w .X) at more r
+  comes : (r : Record) → r ≡ recordAfter (mapped m) b (w .X) at → run inBook (mapped m) b ≡ onRecord inBook (w .X) at more r
   unfolding more
   comes r e =
       let f : suc mostWords - words ≡ suc (mostWords - words) = omega (arith, w .good .few, w .count) in
-      w .goes ∙ ap (λ (k : ℕ). runFrom inBook m b k (w .X) at) f ∙ ap (onRecord inBook (w .X) at more) (sym e)
+      w .goes ∙ ap (λ (k : ℕ). runFrom inBook (mapped m) b k (w .X) at) f ∙ ap (onRecord inBook (w .X) at more) (sym e)
 
   -- the record here ends the walk
-  pub ended : {r : Record} → r ≡ recordAfter m b (w .X) at
+  pub ended : {r : Record} → r ≡ recordAfter (mapped m) b (w .X) at
       → onRecord inBook (w .X) at more r ≡ ran (w .X) at
-      → answer (words ∷ letters ∷ at ∷ []) ≡ runTells (run inBook m b)
+      → answer (words ∷ letters ∷ at ∷ []) ≡ runTells (run inBook (mapped m) b)
   ended {r} e q = rw (comes r e, q, w .count, w .sum)
 
-  pub stopped : {r : Record} {number : ℕ} → r ≡ recordAfter m b (w .X) at
+  pub stopped : {r : Record} {number : ℕ} → r ≡ recordAfter (mapped m) b (w .X) at
       → onRecord inBook (w .X) at more r ≡ refused number (length (w .X))
-      → refusal number words ≡ runTells (run inBook m b)
+      → refusal number words ≡ runTells (run inBook (mapped m) b)
   stopped {r} e q = rw (comes r e, q, w .count)
 
   -- the record here is a word
-  pub next : (n : ℕ) → Word n ≡ recordAfter m b (w .X) at → Walking inBook m b (words + 1) (letters + n) (at + 3 + n)
+  pub next : (n : ℕ) → Word n ≡ recordAfter (mapped m) b (w .X) at → Walking inBook m b (words + 1) (letters + n) (at + 3 + n)
   unfolding more
   next n e =
       let j : Joins m b (w .X) at n = joins m b (w .X) at n (sym e) in
-      let v = wordAt m b at n in
+      let v = wordAt (mapped m) b at n in
       let fuel : mostWords - words ≡ suc mostWords - (words + 1) = omega arith in
       record {
         X = snoc (w .X) v;
         good = good-more m b (w .X) at n j (w .good);
         count = omega (arith, snoc-length (w .X) v, w .count);
         sum = omega (arith, total-append (w .X) (v ∷ []), word-size m b at n (j .stands), w .sum);
-        goes = comes (Word n) e ∙ ap (λ (k : ℕ). runFrom inBook m b k (snoc (w .X) v) (at + 3 + n)) fuel;
+        goes = comes (Word n) e ∙ ap (λ (k : ℕ). runFrom inBook (mapped m) b k (snoc (w .X) v) (at + 3 + n)) fuel;
       }

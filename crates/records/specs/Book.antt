@@ -4,7 +4,7 @@ use Prim.Native.Nat.{ℕ, zero, suc, _+_}
 use lib.ListN.{length}
 use Rattle.meaning.specs.Words.{Words, snoc}
 use Rattle.records.specs.Record.{blockAt, textAt}
-use Rattle.records.specs.Run.{Run, ran, refused, bookWords}
+use Rattle.records.specs.Run.{Run, ran, refused, bookRun, bookWords}
 use Rattle.records.specs.declared.record.BlockRecord.{BlockRecord}
 use Rattle.records.specs.declared.record.BlockRecord.the-variants.{End, Text, Bad}
 
@@ -42,6 +42,10 @@ withBlocks b (refused number place) = shut number place
 
 abbrev pub book : List ℕ → List ℕ → Opened
 book m b = withBlocks b (bookWords m b)
+
+-- document 01's book
+abbrev pub byteBook : List ℕ → Opened
+byteBook b = withBlocks b (bookRun (λ u. u) b)
 
 -- none where the book is refused
 abbrev pub textsOf : Opened → Words

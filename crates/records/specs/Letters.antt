@@ -1,9 +1,10 @@
 -- Letters: what a map of 256 numbers makes of bytes.
-use mathlib.Core.List.{List, [], _∷_, map}
-use Prim.Native.Nat.{ℕ, zero, suc}
-use lib.ListN.{getD, take, drop}
+use mathlib.Core.Path.{_≡_}
+use mathlib.Core.List.{List, [], _∷_, map, List·Memᴰ}
+use Prim.Native.Nat.{ℕ, zero, suc, _<_}
+use lib.ListN.{length, getD, take, drop}
 use Rattle.meaning.specs.Numbers.{letterValues}
-use Rattle.meaning.specs.Words.{Word}
+use Rattle.meaning.specs.Words.{Word, Words, Reading, joined}
 
 -- the letter of a byte; 0 past the map's end
 abbrev pub letter : List ℕ → ℕ → ℕ
@@ -12,6 +13,15 @@ letter m x = getD m x 0
 -- the word or text whose bytes these are
 abbrev pub mapped : List ℕ → List ℕ → Word
 mapped m u = map (letter m) u
+
+-- bytes that are equal under the map
+abbrev pub Alike : List ℕ → List ℕ → List ℕ → Type 0
+Alike m u v = mapped m u ≡ mapped m v
+
+-- ns is a reading of the bytes u, by words whose bytes are W
+pub record ReadsUnder (m : List ℕ) (W : Words) (u : List ℕ) (ns : Reading) : Type 0 where
+  pub below : (n : ℕ) → List·Memᴰ n ns → n < length W
+  pub joins : Alike m (joined W ns) u
 
 -- n numbers from k on
 abbrev pub countFrom : ℕ → ℕ → List ℕ

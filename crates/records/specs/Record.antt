@@ -7,7 +7,7 @@ use lib.ListN.{length, getD}
 use lib.Dec.{leb, ltb, eqb}
 use Rattle.meaning.specs.Numbers.{longestWord, longestText}
 use Rattle.meaning.specs.Words.{if_then_else_, same, Word}
-use Rattle.records.specs.Letters.{part, mapped}
+use Rattle.records.specs.Letters.{part}
 use Rattle.records.specs.declared.record.Record.{Record}
 use Rattle.records.specs.declared.record.Record.the-variants as word
 use Rattle.records.specs.declared.record.BlockRecord.{BlockRecord}
@@ -41,9 +41,9 @@ recordAt b at =
     else if ltb (length b) (at + 3) then word.Bad 3
     else sizedWord b at (getD b (at + 2) 0)
 
--- the word of n letters whose record stands at an offset
-abbrev pub wordAt : List ℕ → List ℕ → ℕ → ℕ → Word
-wordAt m b at n = mapped m (part b (at + 3) n)
+-- the word of n letters whose record stands at an offset; ℓ says what bytes are as letters
+abbrev pub wordAt : (List ℕ → Word) → List ℕ → ℕ → ℕ → Word
+wordAt ℓ b at n = ℓ (part b (at + 3) n)
 
 -- how many letters a record has as a word
 abbrev pub wordLen : Record → ℕ

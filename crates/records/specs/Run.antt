@@ -5,28 +5,29 @@ use Prim.Native.Nat.{ℕ, zero, suc, _+_}
 use lib.ListN.{length}
 use lib.Dec.{leb, ltb, eqb}
 use Rattle.meaning.specs.Numbers.{mostWords, mostLetters, longestBook}
-use Rattle.meaning.specs.Words.{if_then_else_, Words, snoc, has, total}
+use Rattle.meaning.specs.Words.{if_then_else_, Word as Letters, Words, snoc, has, total}
+use Rattle.records.specs.Letters.{mapped}
 use Rattle.records.specs.Record.{recordAt, wordAt, wordLen}
 use Rattle.records.specs.declared.record.Record.{Record}
 use Rattle.records.specs.declared.record.Record.the-variants.{End, Block, Word, Bad}
 
--- the word record of n letters at an offset, after the words X: 4, 5, 6
-abbrev pub joining : List ℕ → List ℕ → Words → ℕ → ℕ → Record
-joining m b X at n =
+-- the word record of n letters at an offset, after the words X: 4, 5, 6. ℓ says what bytes are as letters
+abbrev pub joining : (List ℕ → Letters) → List ℕ → Words → ℕ → ℕ → Record
+joining ℓ b X at n =
     if leb mostWords (length X) then Bad 4
     else if ltb mostLetters (total X + n) then Bad 5
-    else if has X (wordAt m b at n) then Bad 6
+    else if has X (wordAt ℓ b at n) then Bad 6
     else Word n
 
-abbrev pub joined : List ℕ → List ℕ → Words → ℕ → Record → Record
-joined m b X at End = End
-joined m b X at Block = Block
-joined m b X at (Word n) = joining m b X at n
-joined m b X at (Bad number) = Bad number
+abbrev pub joined : (List ℕ → Letters) → List ℕ → Words → ℕ → Record → Record
+joined ℓ b X at End = End
+joined ℓ b X at Block = Block
+joined ℓ b X at (Word n) = joining ℓ b X at n
+joined ℓ b X at (Bad number) = Bad number
 
 -- the record at an offset, after the words X
-abbrev pub recordAfter : List ℕ → List ℕ → Words → ℕ → Record
-recordAfter m b X at = joined m b X at (recordAt b at)
+abbrev pub recordAfter : (List ℕ → Letters) → List ℕ → Words → ℕ → Record
+recordAfter ℓ b X at = joined ℓ b X at (recordAt b at)
 
 -- the words, and the offset at which their records end; or a refusal's number and place
 pub data Run : Type 0 where
@@ -41,22 +42,29 @@ onRecord inBook X at more (Word n) = more n
 onRecord inBook X at more (Bad number) = refused number (length X)
 
 -- the run from an offset on, after the words X; the first number bounds the records that are read
-abbrev pub runFrom : Bool → List ℕ → List ℕ → ℕ → Words → ℕ → Run
-runFrom inBook m b zero X at = ran X at
-runFrom inBook m b (suc f) X at =
-    onRecord inBook X at (λ n. runFrom inBook m b f (snoc X (wordAt m b at n)) (at + 3 + n)) (recordAfter m b X at)
+abbrev pub runFrom : Bool → (List ℕ → Letters) → List ℕ → ℕ → Words → ℕ → Run
+runFrom inBook ℓ b zero X at = ran X at
+runFrom inBook ℓ b (suc f) X at =
+    onRecord inBook X at (λ n. runFrom inBook ℓ b f (snoc X (wordAt ℓ b at n)) (at + 3 + n)) (recordAfter ℓ b X at)
 
 -- one record more than there may be words is enough, since it is refused
-unfoldable pub run : Bool → List ℕ → List ℕ → Run
-run inBook m b = runFrom inBook m b (suc mostWords) [] 0
-
--- a dictionary by itself
-abbrev pub dictionary : List ℕ → List ℕ → Run
-dictionary m b = run false m b
+unfoldable pub run : Bool → (List ℕ → Letters) → List ℕ → Run
+run inBook ℓ b = runFrom inBook ℓ b (suc mostWords) [] 0
 
 -- the words of a book: 16, then the word records
+abbrev pub bookRun : (List ℕ → Letters) → List ℕ → Run
+bookRun ℓ b = if ltb longestBook (length b) then refused 16 0 else run true ℓ b
+
+-- a dictionary by itself, and the words of a book, under a letter map
+abbrev pub dictionary : List ℕ → List ℕ → Run
+dictionary m b = run false (mapped m) b
+
 abbrev pub bookWords : List ℕ → List ℕ → Run
-bookWords m b = if ltb longestBook (length b) then refused 16 0 else run true m b
+bookWords m b = bookRun (mapped m) b
+
+-- document 01's dictionary, whose letters are the bytes
+abbrev pub byteDictionary : List ℕ → Run
+byteDictionary b = run false (λ u. u) b
 
 -- the offset past k word records, from an offset on, or past those that there are
 abbrev pub pastWords : List ℕ → ℕ → ℕ → ℕ

@@ -4,6 +4,7 @@ ghost use Prim.Native.Nat.{_+_, _≤_, _<_};
 ghost use lib.ListN.{length};
 ghost use Rattle.meaning.specs.Numbers.{mostLetters};
 ghost use Rattle.meaning.specs.Words.{Words as WordList, has};
+ghost use Rattle.records.specs.Letters.{mapped};
 ghost use Rattle.records.specs.Record.{wordAt};
 ghost use Rattle.records.specs.Run.{recordAfter, run, dictionary, pastWords};
 ghost use Rattle.records.specs.Stored.{Stands, Before};
@@ -26,7 +27,7 @@ fn repeated(map: &[u8], bytes: &[u8], at: usize, n: usize) -> bool
     requires { ⌜ (0 < n) × (at + 3 + n ≤ length (now bytes)) ⌝ }
     ensures { λ r. ⌜
         ((X : WordList) → Stands (now (map .entry)) (now (bytes .entry)) at 0 X
-        → r ≡ has X (wordAt (now (map .entry)) (now (bytes .entry)) at n)) ⌝ }
+        → r ≡ has X (wordAt (mapped (now (map .entry))) (now (bytes .entry)) at n)) ⌝ }
 {
     let mut p = 0;
     while p < at {
@@ -46,7 +47,7 @@ fn record_after(map: &[u8], bytes: &[u8], at: usize, words: u16, letters: u16) -
     requires { ⌜ letters ≤ mostLetters ⌝ }
     ensures { λ r. ⌜
         ((X : WordList) → Before (now (map .entry)) (now (bytes .entry)) at words letters X
-        → r ≡ recordAfter (now (map .entry)) (now (bytes .entry)) X at) ⌝ }
+        → r ≡ recordAfter (mapped (now (map .entry))) (now (bytes .entry)) X at) ⌝ }
 {
     match record_at(bytes, at) {
         Record::End => Record::End,
@@ -88,7 +89,7 @@ fn refused(number: u16, place: u16) -> Dictionary
 
 // The run of word records from the first byte on. In a book a block mark ends it.
 pub fn word_run(map: &[u8], bytes: &[u8], book: bool) -> Dictionary
-    ensures { λ r. ⌜ dictionaryTold r ≡ runTells (run book (now (map .entry)) (now (bytes .entry))) ⌝ }
+    ensures { λ r. ⌜ dictionaryTold r ≡ runTells (run book (mapped (now (map .entry))) (now (bytes .entry))) ⌝ }
 {
     let mut words: u16 = 0;
     let mut letters: u16 = 0;

@@ -15,6 +15,7 @@ pub use dictionary::check_dictionary;
 pub use dictionary::word_place;
 pub use letters::identity;
 pub use letters::letter;
+pub use limits::LETTER_VALUES;
 pub use limits::LONGEST_TEXT;
 pub use record::BlockRecord;
 pub use record::block_at;

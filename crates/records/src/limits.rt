@@ -17,3 +17,6 @@ pub const MOST_LETTERS: u16 = 2047;
 pub const LONGEST_TEXT: usize = 4096;
 
 pub const LONGEST_BOOK: usize = 65536;
+
+// The length of a letter map.
+pub const LETTER_VALUES: usize = 256;

@@ -29,7 +29,7 @@ fn wide(b: u8) -> usize
 
 // What the record at `at` is refused for, or 0. Refusals 4 and 5 don't occur: at most 64 bytes
 // hold neither 257 words nor 2,048 letters.
-fn refusal_at(d: &[u8; 64], len: usize, words: Parts, at: usize) -> usize {
+fn refusal_at(d: &[u8; 64], letters: &[u8; 64], len: usize, words: Parts, at: usize) -> usize {
     if len <= at {
         return 1;
     }
@@ -47,7 +47,7 @@ fn refusal_at(d: &[u8; 64], len: usize, words: Parts, at: usize) -> usize {
     if left - 3 < n {
         return 3;
     }
-    if find(d, words, d, at + 3, n) != NONE {
+    if find(letters, words, letters, at + 3, n) != NONE {
         return 6;
     }
     0
@@ -60,13 +60,14 @@ fn at_most_64(n: usize) -> usize
     if n < 64 { n } else { 64 }
 }
 
-// The word records of the first `len` bytes of `d`.
-pub fn parse(d: &[u8; 64], len: usize) -> Parsed {
+// The word records of the first `len` bytes of `d`. Marks and lengths are bytes; words are repeated
+// when their letters are.
+pub fn parse(d: &[u8; 64], letters: &[u8; 64], len: usize) -> Parsed {
     let end = at_most_64(len);
     let mut words = no_parts();
     let mut at = 0;
     while at < end {
-        let refusal = refusal_at(d, end, words, at);
+        let refusal = refusal_at(d, letters, end, words, at);
         if refusal != 0 {
             let place = words.count;
             return Parsed {

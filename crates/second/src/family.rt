@@ -1,4 +1,4 @@
-// The family's random numbers, dictionaries and texts.
+// The family's random numbers, dictionaries, texts and letter maps.
 ghost use Prim.Native.Nat.{_<_};
 use super::strings::Bytes;
 use super::strings::Part;
@@ -14,6 +14,12 @@ use super::strings::with_part;
 pub struct Made {
     pub records: Bytes,
     pub words: Parts,
+}
+
+// A letter map: the first `len` bytes of `at` are lent.
+pub struct LetterMap {
+    pub at: [u8; 257],
+    pub len: usize,
 }
 
 // The next random number below n. x is below 2147483648 already: its remainder shows that the
@@ -123,4 +129,72 @@ pub fn random_text(x: &mut usize, records: &[u8; 64], words: Parts, letters: usi
         return with_letters(x, no_bytes(), len, letters);
     }
     text_of_words(x, records, words)
+}
+
+// The map of 256 bytes under which every byte is its own letter. What stands after them is 0.
+fn identity() -> LetterMap {
+    let mut at = [0u8; 257];
+    for i in 0..256 {
+        at[i] = as_byte(i);
+    }
+    LetterMap { at, len: 256 }
+}
+
+// The map with one byte made another letter.
+fn with_join(map: LetterMap, from: usize, letter: u8) -> LetterMap {
+    let mut after = map;
+    if from < 257 {
+        after.at[from] = letter;
+    }
+    after
+}
+
+// A letter of the family's words, or one that stands before or after all of these.
+fn random_letter(x: &mut usize) -> u8 {
+    let to = rnd(x, 6);
+    if to < 3 {
+        as_byte(97 + to)
+    } else {
+        as_byte(127 * (to - 3))
+    }
+}
+
+// The map with so many random letters of words made others. A later one may undo an earlier.
+fn with_joins(x: &mut usize, map: LetterMap, joins: usize) -> LetterMap {
+    let mut after = map;
+    for _ in 0..joins {
+        let from = 97 + rnd(x, 3);
+        let letter = random_letter(x);
+        after = with_join(after, from, letter);
+    }
+    after
+}
+
+// How many bytes of a map are lent: seldom another number than 256.
+fn random_size(x: &mut usize) -> usize {
+    let size = rnd(x, 24);
+    if size == 0 {
+        return 0;
+    }
+    if size == 1 {
+        return 255;
+    }
+    if size == 2 {
+        return 257;
+    }
+    256
+}
+
+// The identity; or a map that changes letters of words, and also bytes of a word record's mark and
+// length, which must change no record.
+pub fn random_map(x: &mut usize) -> LetterMap {
+    let joins = rnd(x, 4);
+    let mut map = identity();
+    if joins != 0 {
+        map = with_join(with_join(map, 87, 84), 68, 84);
+        map = with_join(map, 1, 2);
+        map = with_joins(x, map, joins);
+    }
+    map.len = random_size(x);
+    map
 }

@@ -5,7 +5,7 @@
 // Random numbers: a state x, at first 20260114. `rnd(n)`, for n of 1 or more, makes x
 // (x * 1103515245 + 12345) % 2147483648, and gives (x / 65536) % n.
 //
-// Cases are numbered 0 to 2,999, and x goes on from case to case. For each, in this order:
+// Cases are numbered 0 to 3,999, and x goes on from case to case. For each, in this order:
 // 1. letters = 2 + rnd(2).
 // 2. words = rnd(7). For each word: length = 1 + rnd(4), then length times a letter
 //    97 + rnd(letters). Its record is 87, 68, length, the letters. The dictionary is the records one
@@ -17,10 +17,16 @@
 //    Otherwise the text is made of words as they were before damage. It is empty at first; then,
 //    1 + rnd(5) times, w = rnd(words), and word w is appended if the text then has at most 16
 //    letters, and is else left out.
+// 5. A letter map, at first of 256 bytes, byte i being i. joins = rnd(4). If it isn't 0, bytes 87 and
+//    68 of the map become 84, and byte 1 becomes 2. Then, joins times: from = 97 + rnd(3),
+//    to = rnd(6), and byte `from` of the map becomes 97 + to if to is below 3, else 127 * (to - 3).
+//    Then size = rnd(24): if it is 0 the map is lent with no byte, if 1 with its first 255 bytes, if
+//    2 with one byte more, 0, else as it is.
 //
 // The checksum h is 0 at first, and mixing v in makes it (h * 1000003 + v + 1) % 4294967291. Of each
-// case are mixed in, in this order:
-// - dictionary refused: 1, the refusal's number, its place, and nothing more;
+// case are mixed in, in this order, where letters are what the map makes of bytes, in words and text,
+// and marks and lengths are bytes as they are:
+// - map or dictionary refused: 1, the refusal's number, its place, and nothing more;
 // - not refused: 0; the numbers of words and states, and r; the table's numbers, eight for each
 //   state, row by row, 65,535 for none; the same once more of the table moved to seven numbers a
 //   row, and of that moved back to eight; the state column, positions 0 to the text's length; the
@@ -30,9 +36,10 @@
 //   numbers left to right; at last the number of readings so listed.
 //
 // After each case c with c % 100 = 99 a line is printed: `cases`, c + 1, h, with one space between
-// fields. So there are 30 lines.
+// fields. So there are 40 lines.
 mod automaton;
 mod family;
+mod letters;
 mod scan;
 mod strings;
 mod sum;
@@ -41,9 +48,11 @@ use automaton::mixed_table;
 use automaton::parse;
 use automaton::states_of;
 use family::damaged;
+use family::random_map;
 use family::random_records;
 use family::random_text;
 use family::rnd;
+use letters::mapped;
 use scan::Listing;
 use scan::counts_of;
 use scan::list_readings;
@@ -70,19 +79,40 @@ fn mixed_text(h: u64, letters: &[u8; 64], words: Parts, text: &[u8; 64], len: us
     mixed(all.sum, all.listed)
 }
 
-// The sum with what one case gives.
-fn mixed_case(h: u64, d: &[u8; 64], d_len: usize, text: &[u8; 64], len: usize) -> u64 {
-    let got = parse(d, d_len);
-    if got.refusal != 0 {
-        return mixed(mixed(mixed(h, 1), got.refusal as u64), got.place as u64);
+fn mixed_refusal(h: u64, number: usize, place: usize) -> u64 {
+    mixed(mixed(mixed(h, 1), number as u64), place as u64)
+}
+
+// The sum with what accepted words and a text give.
+fn mixed_words(h: u64, letters: &[u8; 64], words: Parts, text: &[u8; 64], len: usize) -> u64 {
+    let states = states_of(letters, words);
+    let h1 = mixed_table(mixed(h, 0), letters, words, states, 8);
+    let h2 = mixed_table(h1, letters, words, states, 7);
+    let h3 = mixed_table(h2, letters, words, states, 8);
+    let h4 = mixed_states(h3, letters, states, text, len);
+    mixed_text(h4, letters, words, text, len)
+}
+
+// The sum with what one case gives. After the records are parsed only letters count.
+fn mixed_case(
+    h: u64,
+    map: &[u8; 257],
+    map_len: usize,
+    d: &[u8; 64],
+    d_len: usize,
+    t: &[u8; 64],
+    t_len: usize,
+) -> u64 {
+    if map_len != 256 {
+        return mixed_refusal(h, 18, 0);
     }
-    let words = got.words;
-    let states = states_of(d, words);
-    let h1 = mixed_table(mixed(h, 0), d, words, states, 8);
-    let h2 = mixed_table(h1, d, words, states, 7);
-    let h3 = mixed_table(h2, d, words, states, 8);
-    let h4 = mixed_states(h3, d, states, text, len);
-    mixed_text(h4, d, words, text, len)
+    let letters = mapped(map, d);
+    let got = parse(d, &letters, d_len);
+    if got.refusal != 0 {
+        return mixed_refusal(h, got.refusal, got.place);
+    }
+    let text = mapped(map, t);
+    mixed_words(h, &letters, got.words, &text, t_len)
 }
 
 fn next_case(x: &mut usize, h: u64) -> u64 {
@@ -92,9 +122,11 @@ fn next_case(x: &mut usize, h: u64) -> u64 {
     let dictionary = damaged(x, made.records);
     let records = made.records.at;
     let text = random_text(x, &records, made.words, letters);
+    let map = random_map(x);
+    let m = map.at;
     let d = dictionary.at;
     let t = text.at;
-    mixed_case(h, &d, dictionary.len, &t, text.len)
+    mixed_case(h, &m, map.len, &d, dictionary.len, &t, text.len)
 }
 
 fn print_line(cases: u64, h: u64) {
@@ -108,7 +140,7 @@ fn print_line(cases: u64, h: u64) {
 fn main() {
     let mut x = 20260114;
     let mut h = 0;
-    for c in 0..3000 {
+    for c in 0..4000 {
         h = next_case(&mut x, h);
         if c % 100 == 99 {
             print_line(c + 1, h);

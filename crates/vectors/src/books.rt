@@ -5,15 +5,15 @@ use super::lines::print_refusal;
 use super::making::put_block;
 use super::making::put_blocks;
 use super::making::put_word;
+use super::plain::block;
+use super::plain::build;
+use super::plain::check_book;
 use super::scans::scan_line;
 use orgamish::BookAnswer;
-use orgamish::block;
-use orgamish::build;
-use orgamish::check_book;
 
-fn book_line(name: &[u8], book: &[u8]) {
+pub fn checked_line(name: &[u8], told: BookAnswer) {
     print(name);
-    match check_book(book) {
+    match told {
         BookAnswer::Blocks { words, blocks } => {
             print_number(words);
             print_number(blocks);
@@ -25,12 +25,20 @@ fn book_line(name: &[u8], book: &[u8]) {
     print(b"\n");
 }
 
-// The text of block n in brackets.
-fn block_line(name: &[u8], book: &[u8], n: usize) {
+fn book_line(name: &[u8], book: &[u8]) {
+    checked_line(name, check_book(book));
+}
+
+// A text in brackets.
+pub fn text_line(name: &[u8], text: &[u8]) {
     print(name);
     print(b" [");
-    print(block(book, n));
+    print(text);
     print(b"]\n");
+}
+
+fn block_line(name: &[u8], book: &[u8], n: usize) {
+    text_line(name, block(book, n));
 }
 
 // The verdict on block n under a table of 80 numbers.

@@ -6,8 +6,8 @@ use super::lines::print_number;
 use super::lines::print_refusal;
 use super::making::put_word;
 use super::making::put_words;
+use super::plain::build;
 use orgamish::BuildAnswer;
-use orgamish::build;
 
 // What was told, and whether the numbers, which were all 7, are as they were.
 pub fn told_line(name: &[u8], told: BuildAnswer, table: &[u16]) {

@@ -5,12 +5,12 @@ use super::lines::print_number;
 use super::lines::print_numbers;
 use super::lines::print_refusal;
 use super::lines::same_numbers;
+use super::plain::build;
+use super::plain::first;
+use super::plain::next;
+use super::plain::scan;
 use orgamish::FirstAnswer;
 use orgamish::NextAnswer;
-use orgamish::build;
-use orgamish::first;
-use orgamish::next;
-use orgamish::scan;
 
 fn size(n: u16) -> usize {
     n as usize
@@ -22,7 +22,18 @@ fn print_reading(reading: &[u16], words: u16) {
     print(b"\n");
 }
 
-// What first tells and writes. `before` is a copy of the buffer.
+// What first told and wrote. `before` is a copy of the buffer.
+pub fn first_told_line(name: &[u8], told: FirstAnswer, reading: &[u16], before: &[u16]) {
+    print(name);
+    match told {
+        FirstAnswer::Words { words } => print_reading(reading, words),
+        FirstAnswer::Refused { number, place } => {
+            print_refusal(number, place);
+            print_kept(same_numbers(reading, before));
+        }
+    }
+}
+
 fn first_line(
     name: &[u8],
     dict: &[u8],
@@ -33,17 +44,23 @@ fn first_line(
     reading: &mut [u16],
     before: &[u16],
 ) {
+    let told = first(dict, table, text, states, counts, reading);
+    first_told_line(name, told, reading, before);
+}
+
+// What next told and wrote. `before` is a copy of the buffer.
+pub fn next_told_line(name: &[u8], told: NextAnswer, reading: &[u16], before: &[u16]) {
     print(name);
-    match first(dict, table, text, states, counts, reading) {
-        FirstAnswer::Words { words } => print_reading(reading, words),
-        FirstAnswer::Refused { number, place } => {
+    match told {
+        NextAnswer::Words { words } => print_reading(reading, words),
+        NextAnswer::End => print(b" end\n"),
+        NextAnswer::Refused { number, place } => {
             print_refusal(number, place);
             print_kept(same_numbers(reading, before));
         }
     }
 }
 
-// What next tells and writes. `before` is a copy of the buffer.
 fn next_line(
     name: &[u8],
     dict: &[u8],
@@ -55,15 +72,8 @@ fn next_line(
     before: &[u16],
     given: usize,
 ) {
-    print(name);
-    match next(dict, table, text, states, counts, reading, given) {
-        NextAnswer::Words { words } => print_reading(reading, words),
-        NextAnswer::End => print(b" end\n"),
-        NextAnswer::Refused { number, place } => {
-            print_refusal(number, place);
-            print_kept(same_numbers(reading, before));
-        }
-    }
+    let told = next(dict, table, text, states, counts, reading, given);
+    next_told_line(name, told, reading, before);
 }
 
 // The only reading of aaaaab has three words.

@@ -5,7 +5,9 @@ mod builds;
 mod lines;
 mod lists;
 mod making;
+mod maps;
 mod moves;
+mod plain;
 mod scans;
 
 use books::print_bad_books;
@@ -22,6 +24,14 @@ use lists::print_list_end;
 use lists::print_no_reading;
 use lists::print_reading_room;
 use lists::print_unscanned;
+use maps::print_columns_of_ab;
+use maps::print_exchanged;
+use maps::print_joined;
+use maps::print_joined_list;
+use maps::print_joined_twice;
+use maps::print_map_lengths;
+use maps::print_marks_as_bytes;
+use maps::print_one_letter;
 use moves::print_moves;
 use moves::print_narrow_refusals;
 use moves::print_widen_refusals;
@@ -55,6 +65,14 @@ fn print_vectors(set_e: &[u8], book: &[u8], runs: &[u8]) {
     print_book_lengths();
     print_block_lengths();
     print_bad_books();
+    print_map_lengths();
+    print_joined();
+    print_joined_list();
+    print_joined_twice();
+    print_columns_of_ab();
+    print_exchanged();
+    print_one_letter();
+    print_marks_as_bytes();
 }
 
 fn main() {

@@ -2,9 +2,9 @@
 use super::builds::told_line;
 use super::lines::print;
 use super::lines::print_numbers;
-use orgamish::build;
-use orgamish::narrow;
-use orgamish::widen;
+use super::plain::build;
+use super::plain::narrow;
+use super::plain::widen;
 
 fn widen_line(name: &[u8], dict: &[u8], stored: &[u16], table: &mut [u16]) {
     let told = widen(dict, stored, table);
@@ -16,7 +16,7 @@ fn narrow_line(name: &[u8], dict: &[u8], table: &[u16], stored: &mut [u16]) {
     told_line(name, told, stored);
 }
 
-fn rows_line(name: &[u8], table: &[u16]) {
+pub fn rows_line(name: &[u8], table: &[u16]) {
     print(name);
     print_numbers(table, table.len());
     print(b"\n");

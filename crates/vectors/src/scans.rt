@@ -6,9 +6,9 @@ use super::lines::print_count;
 use super::lines::print_kept;
 use super::lines::print_number;
 use super::lines::print_refusal;
+use super::plain::build;
+use super::plain::scan;
 use orgamish::ScanAnswer;
-use orgamish::build;
-use orgamish::scan;
 
 fn print_verdict(accepted: bool) {
     if accepted {
@@ -29,17 +29,10 @@ fn columns_marked(states: &[u16], counts: &[u64]) -> bool {
     false
 }
 
-// What scan tells. Where a refusal is expected, all entries of the columns are 7.
-pub fn scan_line(
-    name: &[u8],
-    dict: &[u8],
-    table: &[u16],
-    text: &[u8],
-    states: &mut [u16],
-    counts: &mut [u64],
-) {
+// What scan told. Where a refusal is expected, all entries of the columns were 7.
+pub fn scanned_line(name: &[u8], told: ScanAnswer, states: &[u16], counts: &[u64]) {
     print(name);
-    match scan(dict, table, text, states, counts) {
+    match told {
         ScanAnswer::Scanned {
             accepted,
             farthest,
@@ -57,6 +50,18 @@ pub fn scan_line(
             print_kept(columns_marked(states, counts));
         }
     }
+}
+
+pub fn scan_line(
+    name: &[u8],
+    dict: &[u8],
+    table: &[u16],
+    text: &[u8],
+    states: &mut [u16],
+    counts: &mut [u64],
+) {
+    let told = scan(dict, table, text, states, counts);
+    scanned_line(name, told, states, counts);
 }
 
 // With columns for 94 letters.

@@ -8,7 +8,7 @@ abbrev Inv-loop : tie.InvT-loop
 Inv-loop x₀ h₀ c₀ x h c = Unit {0}
 
 abbrev μ-loop : tie.MeasureT-loop
-μ-loop x₀ h₀ c₀ x h c = 3000 - c
+μ-loop x₀ h₀ c₀ x h c = 4000 - c
 
 loop-holds : tie.Need-loop-holds Inv-loop μ-loop
 loop-holds c = tt

@@ -11,11 +11,17 @@ at-most-requires c κs = search needs
 at-most-requires-2 : tie.Need-at-most-requires-2
 at-most-requires-2 c κs = search needs
 
+at-most-requires-3 : tie.Need-at-most-requires-3
+at-most-requires-3 c κs = search needs
+
 slice-aggregate-mixed-build : tie.Need-slice-aggregate-mixed-build
-slice-aggregate-mixed-build c = sym (length-take-le _ _ (c .before .before .at-most .ensures))
+slice-aggregate-mixed-build c = sym (length-take-le _ _ (c .before .before .before .at-most .ensures))
 
 slice-aggregate-mixed-build-2 : tie.Need-slice-aggregate-mixed-build-2
-slice-aggregate-mixed-build-2 c = sym (length-take-le _ _ (c .before .before .at-most2 .ensures))
+slice-aggregate-mixed-build-2 c = sym (length-take-le _ _ (c .before .before .before .at-most2 .ensures))
+
+slice-aggregate-mixed-build-3 : tie.Need-slice-aggregate-mixed-build-3
+slice-aggregate-mixed-build-3 c = sym (length-take-le _ _ (c .before .before .before .at-most3 .ensures))
 
 mixed-build-requires : tie.Need-mixed-build-requires
 mixed-build-requires c κs = search needs
@@ -29,7 +35,9 @@ mixed-case-spec =
     (tie.spec
     at-most-requires
     at-most-requires-2
+    at-most-requires-3
     slice-aggregate-mixed-build
     slice-aggregate-mixed-build-2
+    slice-aggregate-mixed-build-3
     mixed-build-requires
     returns)

@@ -8,10 +8,10 @@ use Rattle.many.proofs.calls.mixed_from.Statement.{statement}
 use Rattle.many.proofs.calls.mixed_from.Tie as tie
 
 abbrev Inv-loop : tie.InvT-loop
-Inv-loop h dict table text states counts reading₀ words given₀ sum₀ listed₀ reading given sum listed = length reading ≡ length reading₀
+Inv-loop h map dict table text states counts reading₀ words given₀ sum₀ listed₀ reading given sum listed = length reading ≡ length reading₀
 
 abbrev μ-loop : tie.MeasureT-loop
-μ-loop h dict table text states counts reading₀ words given₀ sum₀ listed₀ reading given sum listed = 40 - listed
+μ-loop h map dict table text states counts reading₀ words given₀ sum₀ listed₀ reading given sum listed = 40 - listed
 
 mixed-reading-requires : tie.Need-mixed-reading-requires Inv-loop μ-loop
 mixed-reading-requires c κs = tt

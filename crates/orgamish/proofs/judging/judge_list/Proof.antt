@@ -8,8 +8,9 @@ use borrow.Author.Needs.{needs}
 use denote.Ref.{now}
 use Rattle.meaning.specs.Words.{Word, Words, if_then_else_}
 use Rattle.records.specs.Letters.{mapped}
-use Rattle.records.specs.Run.{Run, dictionary}
+use Rattle.records.specs.Run.{Run}
 use Rattle.columns.specs.Scans.{Room, areColumns}
+use Rattle.orgamish.specs.Under.{wordsUnder}
 use Rattle.orgamish.specs.Order.{scanRefusal, columnsRefusal, _andThen_}
 use Rattle.orgamish.specs.Judging.{passed, verdict}
 use Rattle.orgamish.proofs.Verdicts.{Passes, passes, refused-before, then-test, passed-allowed}
@@ -39,7 +40,7 @@ abbrev columns : tie.Start → Words → ℕ
 columns s X = columnsRefusal X (text s) (ss s) (cs s)
 
 abbrev words : tie.Start → Run
-words s = dictionary (now (s .args .map)) (now (s .args .dict))
+words s = wordsUnder (now (s .args .map)) (now (s .args .dict))
 
 abbrev judged : tie.After-enum-told → tie.After-judge-scan
 judged c = c .before .before

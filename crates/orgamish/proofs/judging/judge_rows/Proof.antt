@@ -3,31 +3,31 @@ use mathlib.Core.Path.{_≡_, sym, ap, _∙_}
 use native.Mathlib.Omega.{arith}
 use borrow.Author.Needs.{needs}
 use denote.Ref.{now}
-use Rattle.records.specs.Run.{dictionary}
 use Rattle.records.specs.Told.{dictionaryTold}
 use Rattle.records.proofs.Determined.{RanAs, told-ran, told-refused}
 use Rattle.automaton.specs.Building.{Accepted}
 use Rattle.automaton.specs.Forms.{tableIn}
 use Rattle.automaton.specs.Lending.{judged}
 use Rattle.automaton.specs.declared.lending.Judged.{Judged}
+use Rattle.orgamish.specs.Under.{wordsUnder}
 use Rattle.orgamish.specs.Order.{rowsNumber, tableRefusal}
 use Rattle.orgamish.specs.Judging.{passed, verdict}
 use Rattle.orgamish.proofs.Verdicts.{told-accepted}
 use Rattle.orgamish.proofs.judging.judge_rows.Statement.{statement}
 use Rattle.orgamish.proofs.judging.judge_rows.Tie as tie
 
-abbrev entry : tie.After-check-dictionary → tie.Start
+abbrev entry : tie.After-check-words → tie.Start
 entry c = c .before .before .before .before
 
 -- the words that were found
-abbrev checked : tie.After-known-told2 → tie.After-check-dictionary
+abbrev checked : tie.After-known-told2 → tie.After-check-words
 checked c = c .before .before .before
 
 found : (c : tie.After-known-told2)
     → let a = entry (checked c) .args in
     let g = c .before .words .given .0 in
-    RanAs (dictionary (now (a .map)) (now (a .dict))) (g .0) (g .1 .0) (g .1 .1 .0)
-found c = told-ran _ (ap dictionaryTold (sym (c .before .words .given .1)) ∙ checked c .check-dictionary .ensures)
+    RanAs (wordsUnder (now (a .map)) (now (a .dict))) (g .0) (g .1 .0) (g .1 .1 .0)
+found c = told-ran _ (ap dictionaryTold (sym (c .before .words .given .1)) ∙ checked c .check-words .ensures)
 
 abbrev accepted : tie.After-known-told2 → Type 0
 accepted c = let a = entry (checked c) .args in Accepted (found c .X) (now (a .map)) (now (a .dict)) (c .before .words .given .0 .0)
@@ -41,14 +41,14 @@ rows c = c .before
 
 judges : (c : tie.After-judge-table) (j : Judged) → let a = entry (checked (rows c)) .args in
     j ≡ judged (tableIn (a .form) (found (rows c) .X)) (now (a .table))
-    → passed (rowsNumber j) ≡ verdict (λ X. tableRefusal (tableIn (a .form) X) (now (a .table))) (dictionary (now (a .map)) (now (a .dict)))
+    → passed (rowsNumber j) ≡ verdict (λ X. tableRefusal (tableIn (a .form) X) (now (a .table))) (wordsUnder (now (a .map)) (now (a .dict)))
 judges c j e =
     let a = entry (checked (rows c)) .args in
     ap (λ (k : Judged). passed (rowsNumber k)) e
     ∙ ap (verdict (λ X. tableRefusal (tableIn (a .form) X) (now (a .table)))) (sym (found (rows c) .is))
 
-check-dictionary-requires : tie.Need-check-dictionary-requires
-check-dictionary-requires c κs = search needs
+check-words-requires : tie.Need-check-words-requires
+check-words-requires c κs = search needs
 
 enum-known-number : tie.Need-enum-known-number
 enum-known-number c = search needs
@@ -77,7 +77,7 @@ returns c =
     let d = c .before .before .before in
     let a = entry d .args in
     ap (verdict (λ X. tableRefusal (tableIn (a .form) X) (now (a .table))))
-    (sym (told-refused (dictionary (now (a .map)) (now (a .dict))) (ap dictionaryTold (sym (c .before .number .given .1)) ∙ d .check-dictionary .ensures)))
+    (sym (told-refused (wordsUnder (now (a .map)) (now (a .dict))) (ap dictionaryTold (sym (c .before .number .given .1)) ∙ d .check-words .ensures)))
 
 returns-2 : tie.Need-returns-2
 returns-2 c =
@@ -98,7 +98,7 @@ pub judge-rows-spec : {M : Type 1} → statement M
 judge-rows-spec =
     tie.close
     (tie.spec
-    check-dictionary-requires
+    check-words-requires
     enum-known-number
     enum-known-words
     cast-judge-table

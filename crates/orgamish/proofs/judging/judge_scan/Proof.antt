@@ -9,8 +9,9 @@ use lib.ListN.{length}
 use Rattle.meaning.specs.Words.{Word, Words}
 use Rattle.meaning.specs.Table.{table}
 use Rattle.records.specs.Letters.{mapped}
-use Rattle.records.specs.Run.{Run, dictionary}
+use Rattle.records.specs.Run.{Run}
 use Rattle.columns.proofs.Entry.{mapped-size}
+use Rattle.orgamish.specs.Under.{wordsUnder}
 use Rattle.orgamish.specs.Order.{tableRefusal, textRefusal, roomRefusal, _andThen_}
 use Rattle.orgamish.specs.Judging.{passed, verdict}
 use Rattle.orgamish.proofs.Verdicts.{passes, refused-before, then-test, long-text, short-states, short-counts, sizes-fit}
@@ -24,7 +25,7 @@ abbrev rows : tie.Start → Words → ℕ
 rows s X = tableRefusal (table X) (now (s .args .table))
 
 abbrev words : tie.Start → Run
-words s = dictionary (now (s .args .map)) (now (s .args .dict))
+words s = wordsUnder (now (s .args .map)) (now (s .args .dict))
 
 abbrev text : tie.Start → Word
 text s = mapped (now (s .args .map)) (now (s .args .text))

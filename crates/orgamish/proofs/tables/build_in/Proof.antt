@@ -9,12 +9,13 @@ use denote.Ref.{now}
 use Rattle.meaning.specs.Words.{Words, if_then_else_}
 use Rattle.meaning.specs.Table.{over}
 use Rattle.meaning.proofs.States.{allowed-bounded}
-use Rattle.records.specs.Run.{Run, dictionary}
+use Rattle.records.specs.Run.{Run}
 use Rattle.records.specs.Told.{dictionaryTold, answer}
 use Rattle.records.proofs.Determined.{RanAs, told-ran, told-refused}
 use Rattle.automaton.specs.Building.{Accepted}
 use Rattle.automaton.specs.Forms.{tableIn}
 use Rattle.automaton.specs.Lending.{tooShort}
+use Rattle.orgamish.specs.Under.{wordsUnder}
 use Rattle.orgamish.specs.Order.{buildRefusal}
 use Rattle.orgamish.specs.Calls.{tells, leaves, measures}
 use Rattle.orgamish.proofs.Verdicts.{told-accepted}
@@ -22,17 +23,17 @@ use Rattle.orgamish.proofs.Called.{Came, came-tells, came-leaves, Wrote
 use Rattle.orgamish.proofs.tables.build_in.Statement.{statement}
 use Rattle.orgamish.proofs.tables.build_in.Tie as tie
 
-abbrev entry : tie.After-check-dictionary → tie.Start
+abbrev entry : tie.After-check-words → tie.Start
 entry c = c .before .before .before .before
 
-abbrev checked : tie.After-known-told2 → tie.After-check-dictionary
+abbrev checked : tie.After-known-told2 → tie.After-check-words
 checked c = c .before .before .before
 
 abbrev begun : tie.After-known-told2 → tie.Start
 begun c = entry (checked c)
 
 abbrev run : tie.Start → Run
-run s = dictionary (now (s .args .map)) (now (s .args .dict))
+run s = wordsUnder (now (s .args .map)) (now (s .args .dict))
 
 abbrev tb : tie.Start → List ℕ
 tb s = now (s .args .table)
@@ -48,7 +49,7 @@ after s X = over (rows-of s X) (tb s)
 
 -- the words that were found
 found : (c : tie.After-known-told2) → let g = c .before .words .given .0 in RanAs (run (begun c)) (g .0) (g .1 .0) (g .1 .1 .0)
-found c = told-ran _ (ap dictionaryTold (sym (c .before .words .given .1)) ∙ checked c .check-dictionary .ensures)
+found c = told-ran _ (ap dictionaryTold (sym (c .before .words .given .1)) ∙ checked c .check-words .ensures)
 
 good : (c : tie.After-known-told2) → let a = begun c .args in
     Accepted (found c .X) (now (a .map)) (now (a .dict)) (c .before .words .given .0 .0)
@@ -61,8 +62,8 @@ came : (c : tie.After-known-told2) (b : Bool) → tooShort (rows-of (begun c) (f
     → Came (test (begun c)) (run (begun c)) (found c .X) (if b then 7 else 0)
 came c b e = record { end = _; is = found c .is; comes = ap (λ (q : Bool). if q then 7 else 0) e }
 
-check-dictionary-requires : tie.Need-check-dictionary-requires
-check-dictionary-requires c κs = search needs
+check-words-requires : tie.Need-check-words-requires
+check-words-requires c κs = search needs
 
 enum-known-number : tie.Need-enum-known-number
 enum-known-number c = search needs
@@ -103,7 +104,7 @@ returns : tie.Need-returns
 returns c =
     let d = c .before .before .before in
     let s = entry d in
-    let e = sym (told-refused (run s) (ap dictionaryTold (sym (c .before .number .given .1)) ∙ d .check-dictionary .ensures)) in
+    let e = sym (told-refused (run s) (ap dictionaryTold (sym (c .before .number .given .1)) ∙ d .check-words .ensures)) in
     (ap (tells (test s) measures) e, ap (leaves (test s) (after s) (tb s)) e)
 
 same-length : tie.Need-same-length
@@ -147,7 +148,7 @@ pub build-in-spec : {M : Type 1} → statement M
 build-in-spec =
     tie.close
     (tie.spec
-    check-dictionary-requires
+    check-words-requires
     enum-known-number
     enum-known-words
     cast-write-table

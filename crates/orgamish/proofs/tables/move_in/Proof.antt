@@ -6,8 +6,9 @@ use borrow.Author.Needs.{needs}
 use denote.Ref.{now}
 use Rattle.meaning.specs.Words.{Words}
 use Rattle.meaning.specs.Table.{over}
-use Rattle.records.specs.Run.{Run, dictionary}
+use Rattle.records.specs.Run.{Run}
 use Rattle.automaton.specs.Forms.{tableIn}
+use Rattle.orgamish.specs.Under.{wordsUnder}
 use Rattle.orgamish.specs.Order.{_andThen_, tableRefusal, buildRefusal}
 use Rattle.orgamish.specs.Calls.{measures}
 use Rattle.orgamish.proofs.Verdicts.{Passes, passes, refused-before}
@@ -19,7 +20,7 @@ abbrev entry : tie.After-judge-rows → tie.Start
 entry c = c .before .before .before .before .before
 
 abbrev run : tie.Start → Run
-run s = dictionary (now (s .args .map)) (now (s .args .dict))
+run s = wordsUnder (now (s .args .map)) (now (s .args .dict))
 
 abbrev lent : tie.Start → List ℕ
 lent s = now (s .args .table)

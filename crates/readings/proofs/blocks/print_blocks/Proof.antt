@@ -11,20 +11,20 @@ use Rattle.readings.proofs.blocks.print_blocks.Statement.{statement}
 use Rattle.readings.proofs.blocks.print_blocks.Tie as tie
 
 abbrev Inv-loop : tie.InvT-loop
-Inv-loop book start words table blocks₀ at₀ blocks at = Going book start blocks at
+Inv-loop map book start words table blocks₀ at₀ blocks at = Going book start blocks at
 
 abbrev μ-loop : tie.MeasureT-loop
-μ-loop book start words table blocks₀ at₀ blocks at = length book - blocks
+μ-loop map book start words table blocks₀ at₀ blocks at = length book - blocks
 
 -- the walk past a block
 past : (c : tie.After-known-told2 Inv-loop μ-loop)
     → let l = c .before .before .before .before .loop in
-    let a = c .before .before .before .before .before .before .before .args in
+    let a = c .before .before .before .before .before .before .before .before .args in
     Going (now (a .book)) (a .start) (l .blocks + 1) (l .at + 4 + c .before .len .given .0 .0)
 past c = let d = c .before .before .before in next (d .before .loop .inv) _ (sym (c .before .len .given .1) ∙ d .block-at .ensures)
 
 loop-holds : tie.Need-loop-holds Inv-loop μ-loop
-loop-holds c = sets-out _ _ (c .before .before .pre .0)
+loop-holds c = sets-out _ _ (c .before .before .before .pre .0)
 
 block-at-requires : tie.Need-block-at-requires Inv-loop μ-loop
 block-at-requires c κs = search needs
@@ -44,7 +44,7 @@ enum-known-number c = search needs
 add-print-refusal : tie.Need-add-print-refusal Inv-loop μ-loop
 add-print-refusal c =
     let g = c .before .before .before .before .loop .inv in
-    let a = c .before .before .before .before .before .before .before in
+    let a = c .before .before .before .before .before .before .before .before in
     omega (arith, g .room, g .within, a .pre)
 
 print-refusal-requires : tie.Need-print-refusal-requires Inv-loop μ-loop
@@ -64,7 +64,7 @@ add-to c = let g = past c in omega (arith, g .within)
 
 slice-aggregate-print-block : tie.Need-slice-aggregate-print-block Inv-loop μ-loop
 slice-aggregate-print-block c =
-    let a = c .before .before .before .before .before .before .before .before in
+    let a = c .before .before .before .before .before .before .before .before .before in
     sym (length-take-le (a .args .start) (now (a .args .book)) (a .pre .0))
 
 sub-print-block : tie.Need-sub-print-block Inv-loop μ-loop
@@ -85,7 +85,7 @@ returns-3 c = tt
 add-blocks : tie.Need-add-blocks Inv-loop μ-loop
 add-blocks c =
     let g = past (c .before .before .before .before) in
-    omega (arith, g .room, g .within, c .before .before .before .before .before .before .before .before .before .before .before .pre)
+    omega (arith, g .room, g .within, c .before .before .before .before .before .before .before .before .before .before .before .before .pre)
 
 loop-less : tie.Need-loop-less Inv-loop μ-loop
 loop-less c = let g = past (c .before .before .before .before) in omega (arith, g .room, g .within)

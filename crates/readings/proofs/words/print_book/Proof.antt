@@ -27,14 +27,18 @@ print-refusal-requires c κs = search needs
 enum-known-words : tie.Need-enum-known-words
 enum-known-words c = search needs
 
+slice-aggregate-print-readings : tie.Need-slice-aggregate-print-readings
+slice-aggregate-print-readings c = search needs
+
 cast-print-readings : tie.Need-cast-print-readings
 cast-print-readings c = search needs
 
 print-readings-requires : tie.Need-print-readings-requires
 print-readings-requires c κs =
-    let d = c .before .before .before in
+    let k = c .before in
+    let d = k .before .before .before in
     let b = now (d .before .before .before .before .args .book) in
-    let w = told-ran _ (ap dictionaryTold (sym (c .before .words .given .1)) ∙ d .book-words .ensures) in
+    let w = told-ran _ (ap dictionaryTold (sym (k .before .words .given .1)) ∙ d .book-words .ensures) in
     let g = words-accepted (d .before .before .identity .result) b (w .is) in
     (g .good .within, g .size, omega (arith, g .good .few, w .count))
 
@@ -54,6 +58,7 @@ print-book-spec =
     enum-known-number
     print-refusal-requires
     enum-known-words
+    slice-aggregate-print-readings
     cast-print-readings
     print-readings-requires
     returns

@@ -7,7 +7,7 @@ use Rattle.readings.proofs.words.print_readings.Statement.{statement}
 use Rattle.readings.proofs.words.print_readings.Tie as tie
 
 slice-aggregate-build : tie.Need-slice-aggregate-build
-slice-aggregate-build c = let a = c .before .before in sym (length-take-le (a .args .start) (now (a .args .book)) (a .pre .0))
+slice-aggregate-build c = let a = c .before .before .before in sym (length-take-le (a .args .start) (now (a .args .book)) (a .pre .0))
 
 slice-aggregate-build-2 : tie.Need-slice-aggregate-build-2
 slice-aggregate-build-2 c = search needs

@@ -7,6 +7,7 @@ use native.Mathlib.Omega.{arith}
 use denote.Ref.{now}
 use borrow.Author.Needs.{needs}
 use Rattle.meaning.specs.Words.{Words}
+use Rattle.records.specs.Letters.{mapped}
 use Rattle.records.proofs.Standing.{left-unlike, Left, none-left, left-same, left-other}
 use Rattle.records.proofs.Bytes.{mapped-length}
 use Rattle.records.specs.Stored.{Stands}
@@ -15,7 +16,7 @@ use Rattle.records.proofs.dictionary.repeated.Statement.{statement}
 use Rattle.records.proofs.dictionary.repeated.Tie as tie
 
 abbrev Inv-loop : tie.InvT-loop
-Inv-loop map bytes at n p₀ p = (X : Words) → Stands map bytes at 0 X → Left map bytes at p X (wordAt map bytes at n)
+Inv-loop map bytes at n p₀ p = (X : Words) → Stands map bytes at 0 X → Left map bytes at p X (wordAt (mapped map) bytes at n)
 
 abbrev μ-loop : tie.MeasureT-loop
 μ-loop map bytes at n p₀ p = at - p

@@ -6,6 +6,7 @@ use native.Mathlib.Omega.{arith}
 use denote.Ref.{now}
 use borrow.Author.Needs.{needs}
 use Rattle.meaning.specs.Numbers.{mostWords}
+use Rattle.records.specs.Letters.{mapped}
 use Rattle.records.specs.Run.{recordAfter}
 use Rattle.records.specs.Told.{dictionaryTold}
 use Rattle.records.proofs.Walking.{Walking, starts, before, offset, ended, stopped, next}
@@ -21,7 +22,7 @@ abbrev μ-loop : tie.MeasureT-loop
 -- the record that the code has read is the definition's
 read : (c : tie.After-record-after Inv-loop μ-loop)
     → let a = c .before .before .before .before .args in
-    c .record-after .result ≡ recordAfter (now (a .map)) (now (a .bytes)) (c .before .loop .inv .X) (c .before .loop .at)
+    c .record-after .result ≡ recordAfter (mapped (now (a .map))) (now (a .bytes)) (c .before .loop .inv .X) (c .before .loop .at)
 read c = let w = c .before .loop .inv in c .record-after .ensures (w .X) (before w)
 
 -- the walk past a word

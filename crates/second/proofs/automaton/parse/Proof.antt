@@ -5,10 +5,10 @@ use Rattle.second.proofs.automaton.parse.Statement.{statement}
 use Rattle.second.proofs.automaton.parse.Tie as tie
 
 abbrev Inv-loop : tie.InvT-loop
-Inv-loop d len end words₀ at₀ words at = Unit {0}
+Inv-loop d letters len end words₀ at₀ words at = Unit {0}
 
 abbrev μ-loop : tie.MeasureT-loop
-μ-loop d len end words₀ at₀ words at = end - at
+μ-loop d letters len end words₀ at₀ words at = end - at
 
 at-most-64-requires : tie.Need-at-most-64-requires Inv-loop μ-loop
 at-most-64-requires c κs = tt
