@@ -14,13 +14,13 @@ use Rattle.meaning.specs.Table.{borderField}
 use Rattle.meaning.proofs.Lists.{Snoc, nothing, last, snoc-view, snoc-length}
 use Rattle.meaning.proofs.Find.{find-some}
 use Rattle.meaning.proofs.States.{Bounded, trie-front}
-use Rattle.automaton.specs.Layout.{fieldAt}
-use Rattle.automaton.specs.Tree.{borderOf, linkOf, chainOf}
-use Rattle.automaton.specs.Insertion.{Growing}
-use Rattle.automaton.specs.Filling.{Known, SameTree, Completed}
+use Rattle.tree.specs.Layout.{fieldAt}
+use Rattle.tree.specs.Tree.{borderOf, linkOf, chainOf}
+use Rattle.tree.specs.Insertion.{Growing}
+use Rattle.tree.specs.Filling.{Known, SameTree, Completed}
 use Rattle.automaton.specs.Queue.{Settled, unsettled, depthIn, Queued, Taking, Taken}
 use Rattle.automaton.proofs.Known.{same-refl, same-trans}
-use Rattle.automaton.proofs.Climb.{root-word, root-inside, root-only}
+use Rattle.tree.proofs.Climb.{root-word, root-inside, root-only}
 
 -- no state has its border yet
 unsettled-all : (t : List ℕ) (m : ℕ) → ((s : ℕ) → s ≤ m → 0 < s → fieldAt t s borderField ≡ absent) → unsettled t m ≡ m

@@ -9,12 +9,12 @@ use Rattle.meaning.specs.Words.{Words, word}
 use Rattle.meaning.specs.Automaton.{states, longestChain}
 use Rattle.meaning.specs.Table.{width, narrowWidth, narrowRow, row, table, narrowTable, over}
 use Rattle.meaning.proofs.Rows.{rows-at, rows-take, table-length, narrow-length, narrow-field}
-use Rattle.automaton.specs.declared.layout.Form.the-variants.{Wide, Narrow}
-use Rattle.automaton.specs.Layout.{fieldAt, Narrowed}
-use Rattle.automaton.specs.Insertion.{Growing}
-use Rattle.automaton.specs.Filling.{Completed}
+use Rattle.tree.specs.declared.layout.Form.the-variants.{Wide, Narrow}
+use Rattle.tree.specs.Layout.{fieldAt, Narrowed}
+use Rattle.tree.specs.Insertion.{Growing}
+use Rattle.tree.specs.Filling.{Completed}
 use Rattle.automaton.specs.Building.{Planted, Builds}
-use Rattle.automaton.proofs.Whole.{whole-rows}
+use Rattle.tree.proofs.Whole.{whole-rows}
 
 -- a list that begins with the numbers vs, and is l past them
 over-by : (vs l l′ : List ℕ) → length l′ ≡ length l → take (length vs) l′ ≡ vs

@@ -7,11 +7,11 @@ use native.Mathlib.Decide.{ℕ-discrete}
 use lib.ListN.{length, length-set}
 use Rattle.meaning.specs.Words.{Words, word}
 use Rattle.meaning.specs.Table.{width, letterField, childField, siblingField, depthField, wordField, borderField, linkField, chainField}
-use Rattle.automaton.specs.Layout.{fieldAt, setField, HasRow}
-use Rattle.automaton.specs.Tree.{Tree, borderOf, linkOf, chainOf}
-use Rattle.automaton.specs.Filling.{Known, SameTree, Grown}
-use Rattle.automaton.proofs.Cells.{set-here, set-other-field, set-other-row, set-past}
-use Rattle.automaton.proofs.Walk.{state-row}
+use Rattle.tree.specs.Layout.{fieldAt, setField, HasRow}
+use Rattle.tree.specs.Tree.{Tree, borderOf, linkOf, chainOf}
+use Rattle.tree.specs.Filling.{Known, SameTree, Grown}
+use Rattle.tree.proofs.Cells.{set-here, set-other-field, set-other-row, set-past}
+use Rattle.tree.proofs.Walk.{state-row}
 
 pub same-refl : {n : ℕ} (t : List ℕ) → SameTree n t t
 same-refl t = record { long = refl; fields = λ s j l. refl; past = λ i l. refl }

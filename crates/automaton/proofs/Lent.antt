@@ -14,9 +14,9 @@ use Rattle.meaning.specs.Table.{width, over}
 use Rattle.meaning.specs.Plain.{Allowed}
 use Rattle.meaning.proofs.Rows.{table-length, narrow-length}
 use Rattle.meaning.proofs.States.{allowed-bounded}
-use Rattle.automaton.specs.declared.layout.Form.{Form}
-use Rattle.automaton.specs.declared.layout.Form.the-variants.{Wide, Narrow}
-use Rattle.automaton.specs.Forms.{widthIn, tableIn}
+use Rattle.tree.specs.declared.layout.Form.{Form}
+use Rattle.tree.specs.declared.layout.Form.the-variants.{Wide, Narrow}
+use Rattle.tree.specs.Forms.{widthIn, tableIn}
 use Rattle.automaton.specs.Building.{Accepted, Buildable, Builds}
 use Rattle.automaton.specs.Lending.{tooShort, judged, wrote, written}
 use Rattle.automaton.specs.declared.lending.Judged.the-variants as judge

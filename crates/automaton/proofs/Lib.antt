@@ -1,16 +1,6 @@
-pub mod Cells
-pub mod Walk
 pub mod Known
-pub mod Climb
-pub mod NewState
-pub mod Grow
-pub mod Inserting
 pub mod Queue
 pub mod Breadth
-pub mod Chain
-pub mod RootIndex
-pub mod Copied
-pub mod Whole
 pub mod Planting
 pub mod Finishing
 pub mod Lent

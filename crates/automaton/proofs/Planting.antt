@@ -19,12 +19,12 @@ use Rattle.records.specs.Letters.{mapped, part}
 use Rattle.records.specs.Record.{recordAt, wordLen}
 use Rattle.records.specs.Stored.{place, Holds}
 use Rattle.records.proofs.Accepted.{accepted, word-stands, place-next}
-use Rattle.automaton.specs.Layout.{fieldAt, HasRow, newRow}
-use Rattle.automaton.specs.Tree.{Column}
-use Rattle.automaton.specs.Insertion.{Growing, Insertable, Inserted}
+use Rattle.tree.specs.Layout.{fieldAt, HasRow, newRow}
+use Rattle.tree.specs.Tree.{Column}
+use Rattle.tree.specs.Insertion.{Growing, Insertable, Inserted}
 use Rattle.automaton.specs.Building.{Accepted, Planted}
-use Rattle.automaton.proofs.Cells.{row-here, row-past}
-use Rattle.automaton.proofs.Climb.{root-inside}
+use Rattle.tree.proofs.Cells.{row-here, row-past}
+use Rattle.tree.proofs.Climb.{root-inside}
 
 -- the empty dictionary
 no-words : Allowed []

@@ -21,13 +21,13 @@ use Rattle.meaning.proofs.Children.{lastLetter-snoc}
 use Rattle.meaning.proofs.Suffixes.{proper-inside, proper-shorter}
 use Rattle.meaning.proofs.Chains.{chain-length, link-of-border}
 use Rattle.meaning.proofs.Rows.{stored-small}
-use Rattle.automaton.specs.Layout.{fieldAt, setField, HasRow}
-use Rattle.automaton.specs.Tree.{linkOf, chainOf}
-use Rattle.automaton.specs.Filling.{Bordered, LinkedAt, CountedAt, Known, Grown}
+use Rattle.tree.specs.Layout.{fieldAt, setField, HasRow}
+use Rattle.tree.specs.Tree.{linkOf, chainOf}
+use Rattle.tree.specs.Filling.{Bordered, LinkedAt, CountedAt, Known, Grown}
 use Rattle.automaton.specs.Queue.{Settled, unsettled, depthIn, Taking, Settling, Longer, Settles, Taken}
-use Rattle.automaton.proofs.Walk.{Child, state-row, state-small, more, no-more, left, left-same, left-less}
+use Rattle.tree.proofs.Walk.{Child, state-row, state-small, more, no-more, left, left-same, left-less}
 use Rattle.automaton.proofs.Known.{same-tree, grown-refl, grown-trans, border-set, other-set, known-set, grown-set}
-use Rattle.automaton.proofs.Climb.{root-word, root-inside}
+use Rattle.tree.proofs.Climb.{root-word, root-inside}
 
 -- the number of states without a border
 unsettled-same : (t t′ : List ℕ) (m : ℕ) → ((s : ℕ) → s ≤ m → 0 < s → fieldAt t′ s borderField ≡ fieldAt t s borderField)

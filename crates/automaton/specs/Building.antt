@@ -9,10 +9,10 @@ use Rattle.meaning.specs.Automaton.{states, longestChain}
 use Rattle.meaning.specs.Table.{width, over}
 use Rattle.meaning.specs.Plain.{Allowed}
 use Rattle.records.specs.Run.{ran, dictionary}
-use Rattle.automaton.specs.declared.layout.Form.{Form}
-use Rattle.automaton.specs.declared.layout.Form.the-variants.{Wide}
-use Rattle.automaton.specs.Forms.{widthIn, tableIn}
-use Rattle.automaton.specs.Insertion.{Growing}
+use Rattle.tree.specs.declared.layout.Form.{Form}
+use Rattle.tree.specs.declared.layout.Form.the-variants.{Wide}
+use Rattle.tree.specs.Forms.{widthIn, tableIn}
+use Rattle.tree.specs.Insertion.{Growing}
 
 -- the bytes are a dictionary of the words X, so many of them
 pub record Accepted (X : Words) (m b : List ℕ) (words : ℕ) : Type 0 where

@@ -9,9 +9,9 @@ use lib.ListN.{length, getD}
 use Rattle.meaning.specs.Numbers.{mostStates, absent}
 use Rattle.meaning.specs.Words.{if_then_else_, Words, snoc, find, word}
 use Rattle.meaning.specs.Table.{borderField}
-use Rattle.automaton.specs.Layout.{fieldAt}
-use Rattle.automaton.specs.Tree.{Tree, Indexed}
-use Rattle.automaton.specs.Filling.{Known, Grown}
+use Rattle.tree.specs.Layout.{fieldAt}
+use Rattle.tree.specs.Tree.{Tree, Indexed}
+use Rattle.tree.specs.Filling.{Known, Grown}
 
 -- state s has its border; its link and its chain's length are written with it
 abbrev pub Settled : List ℕ → ℕ → Type 0

@@ -1,21 +1,21 @@
 // Borders, links and chain lengths, filled in one pass, breadth first: those of a state are read from the rows of shorter states.
 ghost use lib.ListN.{length};
 ghost use Rattle.meaning.specs.Words.{Words};
-ghost use Rattle.automaton.specs.Insertion.{Growing};
-ghost use Rattle.automaton.specs.Filling.{Completed};
+ghost use Rattle.tree.specs.Insertion.{Growing};
+ghost use Rattle.tree.specs.Filling.{Completed};
 ghost use Rattle.automaton.specs.Queue.{Settling, Settles, Taking, Taken};
-use crate::chains::count_chain;
-use crate::chains::first_word;
-use crate::layout::NONE;
-use crate::layout::border;
-use crate::layout::first_child;
-use crate::layout::letter;
-use crate::layout::next_sibling;
-use crate::layout::set_border;
-use crate::layout::set_chain_length;
-use crate::layout::set_link;
-use crate::layout::wide;
-use crate::stepping::child_border;
+use tree::NONE;
+use tree::border;
+use tree::child_border;
+use tree::count_chain;
+use tree::first_child;
+use tree::first_word;
+use tree::letter;
+use tree::next_sibling;
+use tree::set_border;
+use tree::set_chain_length;
+use tree::set_link;
+use tree::wide;
 
 // The border, the link and the chain's length of p's child c, which joins the queue of `tail` states. Tells how many they are then.
 // The border's own row tells the link and the length: no border is climbed and no chain walked for them.

@@ -1,16 +1,16 @@
 // The whole table of a dictionary that is accepted.
 ghost use Rattle.meaning.specs.Words.{Words};
-ghost use Rattle.automaton.specs.declared.layout.Form.the-variants.{Wide, Narrow};
+ghost use Rattle.tree.specs.declared.layout.Form.the-variants.{Wide, Narrow};
 ghost use Rattle.automaton.specs.Building.{Buildable, Plantable, Planted, Builds};
 use crate::borders::complete_rows;
-use crate::chains::longest_chain;
-use crate::index::NO_CHILD;
-use crate::insertion::insert_word;
-use crate::layout::Form;
-use crate::layout::MOST_NUMBERS;
-use crate::layout::NONE;
-use crate::layout::add_row;
-use crate::layout::narrow_rows;
+use tree::Form;
+use tree::MOST_NUMBERS;
+use tree::NO_CHILD;
+use tree::NONE;
+use tree::add_row;
+use tree::insert_word;
+use tree::longest_chain;
+use tree::narrow_rows;
 
 // How many states the table has, and how long its longest chain is.
 pub struct Built {

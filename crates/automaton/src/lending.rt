@@ -1,15 +1,15 @@
 // A lent table, in either form, beside that of an accepted dictionary, which is made in a local array: so a refusal writes nothing.
 ghost use mathlib.Core.Path.{_≡_};
 ghost use Rattle.meaning.specs.Words.{Words};
-ghost use Rattle.automaton.specs.Forms.{tableIn};
+ghost use Rattle.tree.specs.Forms.{tableIn};
 ghost use Rattle.automaton.specs.Building.{Accepted};
 ghost use Rattle.automaton.specs.Lending.{judged, wrote, written};
 use crate::building::build;
-use crate::layout::Form;
-use crate::layout::MOST_NUMBERS;
-use crate::layout::row_width;
 use crate::rows::copy_numbers;
 use crate::rows::same_numbers;
+use tree::Form;
+use tree::MOST_NUMBERS;
+use tree::row_width;
 
 // What a lent table is: shorter than the rows of the states (7), with other rows (8), or right.
 pub enum Judged {

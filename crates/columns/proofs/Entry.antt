@@ -14,8 +14,8 @@ use Rattle.meaning.proofs.Chains.{chain-fits}
 use Rattle.meaning.proofs.Counts.{cappedSum, count-suc}
 use Rattle.meaning.proofs.Columns.{column-at, column-long, state-inside, state-fits, state-chain, state-next}
 use Rattle.records.specs.Letters.{letter, mapped}
-use Rattle.automaton.specs.Filling.{Bordered}
-use Rattle.automaton.proofs.Whole.{table-bordered}
+use Rattle.tree.specs.Filling.{Bordered}
+use Rattle.tree.proofs.Whole.{table-bordered}
 use Rattle.columns.specs.Entries.{Ending, countBefore, Tallied, Reached, IsEntry}
 
 -- a text has as many letters as bytes

@@ -14,9 +14,9 @@ use Rattle.meaning.proofs.States.{states-trie}
 use Rattle.meaning.proofs.Suffixes.{nearest-here}
 use Rattle.meaning.proofs.Chains.{chain-length}
 use Rattle.meaning.proofs.Columns.{state-inside, state-chain, probes-within-r}
-use Rattle.automaton.specs.Tree.{IsTable, Indexed}
-use Rattle.automaton.proofs.Walk.{state-small}
-use Rattle.automaton.proofs.Whole.{table-whole}
+use Rattle.tree.specs.Tree.{IsTable, Indexed}
+use Rattle.tree.proofs.Walk.{state-small}
+use Rattle.tree.proofs.Whole.{table-whole}
 use Rattle.columns.specs.Columns.{Columns}
 use Rattle.columns.specs.Entries.{Reached, IsEntry}
 use Rattle.columns.specs.Scans.{Room, Scans}

@@ -14,11 +14,11 @@ use Rattle.meaning.specs.Readings.{readable, stateAt, countAt, viable, farthest
 use Rattle.meaning.proofs.Counts.{count-zero, count-readable, count-unreadable}
 use Rattle.meaning.proofs.Columns.{column-at, column-long}
 use Rattle.meaning.proofs.Farthest.{startOf, Climbed, climbed-first, climbed-fits, climbed-viable, climbed-all, climbed-on, readable-viable, farthest-found}
-use Rattle.automaton.specs.Layout.{fieldAt, HasRow}
-use Rattle.automaton.specs.Tree.{Whole}
-use Rattle.automaton.proofs.Walk.{state-row}
-use Rattle.automaton.proofs.Climb.{root-word, Higher, higher}
-use Rattle.automaton.proofs.Whole.{table-whole}
+use Rattle.tree.specs.Layout.{fieldAt, HasRow}
+use Rattle.tree.specs.Tree.{Whole}
+use Rattle.tree.proofs.Walk.{state-row}
+use Rattle.tree.proofs.Climb.{root-word, Higher, higher}
+use Rattle.tree.proofs.Whole.{table-whole}
 use Rattle.columns.specs.Columns.{Scanned}
 use Rattle.columns.specs.Reaching.{Counted, LastRead, Standing}
 

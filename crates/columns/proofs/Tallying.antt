@@ -11,11 +11,11 @@ use Rattle.meaning.specs.Table.{stored, depthField, linkField}
 use Rattle.meaning.specs.Readings.{capped}
 use Rattle.meaning.proofs.Chains.{chain-word, chain-length, ends-fits}
 use Rattle.meaning.proofs.Counts.{cappedSum}
-use Rattle.automaton.specs.Layout.{fieldAt, HasRow}
-use Rattle.automaton.specs.Tree.{Whole, IsTable}
-use Rattle.automaton.proofs.Walk.{state-row}
-use Rattle.automaton.proofs.Chain.{AtWord, OnChain, Next, begins, chain-end, next, at-depth}
-use Rattle.automaton.proofs.Whole.{table-whole}
+use Rattle.tree.specs.Layout.{fieldAt, HasRow}
+use Rattle.tree.specs.Tree.{Whole, IsTable}
+use Rattle.tree.proofs.Walk.{state-row}
+use Rattle.tree.proofs.Chain.{AtWord, OnChain, Next, begins, chain-end, next, at-depth}
+use Rattle.tree.proofs.Whole.{table-whole}
 use Rattle.columns.specs.Entries.{Ending, countBefore, Tallied}
 
 -- a state has no more letters than a word may have

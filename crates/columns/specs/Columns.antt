@@ -5,7 +5,7 @@ use Prim.Native.Nat.{ℕ, suc}
 use lib.ListN.{length, take}
 use Rattle.meaning.specs.Words.{Word, Words}
 use Rattle.meaning.specs.Readings.{stateColumn, countColumn}
-use Rattle.automaton.specs.Tree.{IsTable}
+use Rattle.tree.specs.Tree.{IsTable}
 
 -- the lists begin with the columns of the text t
 pub record Columns (X : Words) (t : Word) (ss cs : List ℕ) : Type 0 where

@@ -5,7 +5,7 @@ use Prim.Native.Nat.{ℕ, suc, _≤_, _<_}
 use lib.ListN.{length, getD, take}
 use Rattle.meaning.specs.Words.{Word, Words}
 use Rattle.meaning.specs.Readings.{stateAt, countColumn}
-use Rattle.automaton.specs.Tree.{IsTable}
+use Rattle.tree.specs.Tree.{IsTable}
 
 -- the counts up to position n, of which the first isn't 0
 pub record Counted (cs : List ℕ) (n : ℕ) : Type 0 where

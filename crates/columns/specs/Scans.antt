@@ -10,7 +10,7 @@ use Rattle.meaning.specs.Words.{if_then_else_, Word, Words, same}
 use Rattle.meaning.specs.Automaton.{longestChain}
 use Rattle.meaning.specs.Table.{over}
 use Rattle.meaning.specs.Readings.{countAt, stateColumn, countColumn, probes, farthest}
-use Rattle.automaton.specs.Tree.{IsTable}
+use Rattle.tree.specs.Tree.{IsTable}
 
 -- the table is that of X, the text is not too long, and the columns have an entry for each of its positions
 pub record Room (X : Words) (t : Word) (tb ss cs : List ℕ) : Type 0 where

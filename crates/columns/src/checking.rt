@@ -6,8 +6,8 @@ ghost use Rattle.meaning.specs.Words.{Words};
 ghost use Rattle.records.specs.Letters.{mapped};
 ghost use Rattle.columns.specs.Scans.{Room, holdsAt, areColumns};
 use crate::entries::entry_after;
-use automaton::root_index;
-use automaton::wide;
+use tree::root_index;
+use tree::wide;
 
 fn holds_at(states: &[u16], counts: &[u64], i: usize, s: usize, c: u64) -> bool
     requires { ⌜ (i < length (now states)) × (i < length (now counts)) ⌝ }

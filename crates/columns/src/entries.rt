@@ -6,11 +6,11 @@ ghost use Rattle.meaning.specs.Words.{Words};
 ghost use Rattle.meaning.specs.Readings.{capped};
 ghost use Rattle.records.specs.Letters.{mapped};
 ghost use Rattle.columns.specs.Entries.{LetterAt, Ending, Tallied, Reached, IsEntry};
-use automaton::NONE;
-use automaton::depth;
-use automaton::first_word;
-use automaton::link;
-use automaton::step;
+use tree::NONE;
+use tree::depth;
+use tree::first_word;
+use tree::link;
+use tree::step;
 
 // The greatest count. It stands for every number of readings that is not below it.
 const MOST: u64 = 18446744073709551615;

@@ -5,9 +5,9 @@ ghost use Rattle.meaning.specs.Words.{Word, Words};
 ghost use Rattle.meaning.specs.Readings.{viable, farthest as farthestOf};
 ghost use Rattle.columns.specs.Columns.{Scanned};
 ghost use Rattle.columns.specs.Reaching.{Counted, LastRead, Standing};
-use automaton::border;
-use automaton::depth;
-use automaton::wide;
+use tree::border;
+use tree::depth;
+use tree::wide;
 
 // The last position up to n that has a reading. One turn for each position after it.
 fn last_read(counts: &[u64], n: usize) -> usize

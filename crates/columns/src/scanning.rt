@@ -4,7 +4,7 @@ ghost use Rattle.records.specs.Letters.{mapped};
 ghost use Rattle.columns.specs.Scans.{Room, Scans};
 use crate::entries::entry_after;
 use crate::reaching::farthest;
-use automaton::root_index;
+use tree::root_index;
 
 // What a scan tells: how far the text can be read, the count at its end, and the probes.
 pub struct Findings {

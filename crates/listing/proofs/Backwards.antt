@@ -18,7 +18,7 @@ use Rattle.meaning.specs.Plain.{IsReading}
 use Rattle.meaning.proofs.Find.{Tested, pass, fail, test}
 use Rattle.meaning.proofs.Chains.{chain-fits}
 use Rattle.meaning.proofs.Readings.{isReading-last, isReading-is, no-words}
-use Rattle.automaton.specs.Layout.{fieldAt}
+use Rattle.tree.specs.Layout.{fieldAt}
 use Rattle.listing.specs.Positions.{IsWord, Placed, Given}
 use Rattle.listing.proofs.Steps.{word-size}
 

@@ -12,7 +12,7 @@ use Rattle.meaning.specs.Listing.{pick, firstReading}
 use Rattle.meaning.proofs.Lists.{snoc-length}
 use Rattle.meaning.proofs.Chains.{chain-fits}
 use Rattle.meaning.proofs.First.{FirstStep, first-picks, first-step}
-use Rattle.automaton.specs.Layout.{fieldAt, HasRow}
+use Rattle.tree.specs.Layout.{fieldAt, HasRow}
 use Rattle.listing.specs.Positions.{IsWord, StateOf, Readable}
 use Rattle.listing.proofs.Steps.{word-row, word-size}
 

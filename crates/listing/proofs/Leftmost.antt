@@ -16,8 +16,8 @@ use Rattle.meaning.specs.Plain.{IsReading}
 use Rattle.meaning.proofs.Chains.{chain-fits}
 use Rattle.meaning.proofs.First.{Picks, pick-picks}
 use Rattle.meaning.proofs.Next.{keepLast, next-snoc}
-use Rattle.automaton.specs.Layout.{fieldAt}
-use Rattle.automaton.specs.Tree.{IsTable}
+use Rattle.tree.specs.Layout.{fieldAt}
+use Rattle.tree.specs.Tree.{IsTable}
 use Rattle.listing.specs.Positions.{wordsAt, IsWord, StateOf, Placed, Ending, Giving}
 use Rattle.listing.specs.Changes.{Changes}
 use Rattle.listing.proofs.Steps.{word-some, word-size, word-next, placed}

@@ -14,8 +14,8 @@ use Rattle.meaning.specs.Listing.{behind}
 use Rattle.meaning.proofs.Find.{Asked, got, lacks, ask, find-some}
 use Rattle.meaning.proofs.Chains.{chain-here, chain-past}
 use Rattle.meaning.proofs.Next.{behind-here, behind-past}
-use Rattle.automaton.specs.Layout.{fieldAt}
-use Rattle.automaton.specs.Tree.{IsTable}
+use Rattle.tree.specs.Layout.{fieldAt}
+use Rattle.tree.specs.Tree.{IsTable}
 use Rattle.listing.specs.Positions.{wordsAt, sought, IsWord, StateOf, Walking}
 use Rattle.listing.proofs.Steps.{word-some, word-number, word-next}
 

@@ -16,12 +16,12 @@ use Rattle.meaning.proofs.Chains.{chain-fits, word-of-state}
 use Rattle.meaning.proofs.Columns.{column-at, column-long, state-is, state-inside}
 use Rattle.meaning.proofs.Counts.{count-readable, count-unreadable}
 use Rattle.meaning.proofs.First.{pick-here, pick-past}
-use Rattle.automaton.specs.Layout.{fieldAt, HasRow}
-use Rattle.automaton.specs.Tree.{Tree, IsTable}
-use Rattle.automaton.specs.Filling.{LinkedAt}
-use Rattle.automaton.proofs.Walk.{state-row, state-small}
-use Rattle.automaton.proofs.Chain.{AtWord, Begins, Next, begins, next, chain-end, at-number, at-depth}
-use Rattle.automaton.proofs.Whole.{table-whole, table-linked}
+use Rattle.tree.specs.Layout.{fieldAt, HasRow}
+use Rattle.tree.specs.Tree.{Tree, IsTable}
+use Rattle.tree.specs.Filling.{LinkedAt}
+use Rattle.tree.proofs.Walk.{state-row, state-small}
+use Rattle.tree.proofs.Chain.{AtWord, Begins, Next, begins, next, chain-end, at-number, at-depth}
+use Rattle.tree.proofs.Whole.{table-whole, table-linked}
 use Rattle.listing.specs.Positions.{wordsAt, IsWord, Walking, Placed, Ending, ScannedAt}
 
 -- the row of the state of a word

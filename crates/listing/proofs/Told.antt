@@ -18,8 +18,8 @@ use Rattle.meaning.proofs.Lists.{snoc-length}
 use Rattle.meaning.proofs.Columns.{column-at, column-long}
 use Rattle.meaning.proofs.Counts.{count-readable, count-unreadable}
 use Rattle.meaning.proofs.First.{first-short, first-is-head}
-use Rattle.automaton.specs.Layout.{fieldAt, HasRow}
-use Rattle.automaton.specs.Tree.{IsTable}
+use Rattle.tree.specs.Layout.{fieldAt, HasRow}
+use Rattle.tree.specs.Tree.{IsTable}
 use Rattle.listing.specs.declared.listed.Listed.the-variants.{Nothing, Short, Words as Told}
 use Rattle.listing.specs.Positions.{Readable, Whole, Giving}
 use Rattle.listing.specs.Writing.{Written, moved}

@@ -11,8 +11,8 @@ use Rattle.meaning.specs.Words.{if_then_else_, Word, Words, find, word}
 use Rattle.meaning.specs.Automaton.{states, chain}
 use Rattle.meaning.specs.Readings.{readable, stateColumn, countColumn}
 use Rattle.meaning.specs.Plain.{IsReading}
-use Rattle.automaton.specs.Tree.{IsTable}
-use Rattle.automaton.proofs.Chain.{OnChain}
+use Rattle.tree.specs.Tree.{IsTable}
+use Rattle.tree.proofs.Chain.{OnChain}
 use Rattle.columns.specs.Columns.{Scanned}
 
 -- the words on the chain from state v on; no words where v is none

@@ -6,10 +6,10 @@ ghost use Rattle.listing.specs.Positions.{Giving};
 ghost use Rattle.listing.specs.Changes.{Changes};
 use crate::ending::pick;
 use crate::ending::word_ending;
-use automaton::NONE;
-use automaton::depth;
-use automaton::link;
-use automaton::wide;
+use tree::NONE;
+use tree::depth;
+use tree::link;
+use tree::wide;
 
 // The word at `state` is put in the place of one that also ends at position `end`; the words from entry `kept` on stay. No change
 // where the state is none.

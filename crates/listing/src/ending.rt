@@ -6,12 +6,12 @@ ghost use Rattle.meaning.specs.Automaton.{states as statesOf, nearest, chain};
 ghost use Rattle.meaning.specs.Table.{stored};
 ghost use Rattle.meaning.specs.Listing.{pick as picked};
 ghost use Rattle.listing.specs.Positions.{wordsAt, sought, StateOf, Walking, Placed, Ending, ScannedAt};
-use automaton::NONE;
-use automaton::depth;
-use automaton::first_word;
-use automaton::link;
-use automaton::wide;
-use automaton::word;
+use tree::NONE;
+use tree::depth;
+use tree::first_word;
+use tree::link;
+use tree::wide;
+use tree::word;
 
 // The state of the longest word that ends at position i, or none. From there the links lead on.
 fn longest_ending(table: &[u16], states: &[u16], i: usize) -> usize

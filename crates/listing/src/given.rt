@@ -5,9 +5,9 @@ ghost use Rattle.meaning.specs.Words.{Word, Words};
 ghost use Rattle.meaning.specs.Listing.{isReading};
 ghost use Rattle.listing.specs.Positions.{Given};
 use crate::ending::word_ending;
-use automaton::NONE;
-use automaton::depth;
-use automaton::wide;
+use tree::NONE;
+use tree::depth;
+use tree::wide;
 
 // Whether the first k entries are a reading of the text of m letters. From the last one back, each has to be a word that ends
 // where the one after it begins, and the first has to begin the text. However large k is, at most m + 1 entries are looked at, 4,097

@@ -9,8 +9,8 @@ ghost use Rattle.meaning.specs.Listing.{firstReading};
 ghost use Rattle.listing.specs.Positions.{Readable};
 ghost use Rattle.listing.specs.Writing.{FirstFits, MoreFits, Written};
 use crate::ending::last_word;
-use automaton::depth;
-use automaton::word;
+use tree::depth;
+use tree::word;
 
 // The number of words of the first reading of the first i letters. At most i words are taken off, 4,096 at the limits, and each
 // is found among at most r.

@@ -12,9 +12,9 @@ use crate::leading::first_length;
 use crate::leading::write_ending;
 use crate::leading::write_first;
 use crate::shifting::shift;
-use automaton::NONE;
-use automaton::depth;
-use automaton::word;
+use tree::NONE;
+use tree::depth;
+use tree::word;
 
 // No reading (after the given one), a buffer too short for it, or the number of its words, which are written.
 pub enum Listed {

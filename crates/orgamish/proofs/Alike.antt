@@ -23,13 +23,13 @@ use Rattle.orgamish.specs.declared.answers.ScanAnswer.the-variants as sc
 use Rattle.orgamish.proofs.Under.{under-ran}
 use Rattle.orgamish.proofs.Demands.{accepts-reading}
 
--- the words X are those whose bytes are W₀, mapped
-module _ (m : List ℕ) (W₀ : Words) {X : Words} (letters : X ≡ map (mapped m) W₀) where
-  unlike-words : Storable X → (i j : ℕ) → i < length W₀ → j < length W₀ → Alike m (word W₀ i) (word W₀ j) → i ≡ j
-  unlike-words s = unlike m W₀ (rw (← letters) s)
+-- the words X are these raw words, mapped
+module _ (m : List ℕ) (raw : Words) {X : Words} (letters : X ≡ map (mapped m) raw) where
+  unlike-words : Storable X → (i j : ℕ) → i < length raw → j < length raw → Alike m (word raw i) (word raw j) → i ≡ j
+  unlike-words s = unlike m raw (rw (← letters) s)
 
-  reads-words : (u : List ℕ) (ns : Reading) → IsReading X (mapped m u) ns ↔ ReadsUnder m W₀ u ns
-  reads-words u ns = rw letters (reads-under m W₀ u ns)
+  reads-words : (u : List ℕ) (ns : Reading) → IsReading X (mapped m u) ns ↔ ReadsUnder m raw u ns
+  reads-words u ns = rw letters (reads-under m raw u ns)
 
 module _ (m d : List ℕ) (bytes : (x : ℕ) → letter m x < letterValues) {X : Words} {end : ℕ} (is : wordsUnder m d ≡ ran X end) where
   passed : dictionary m d ≡ ran X end

@@ -14,7 +14,7 @@ use Rattle.meaning.specs.Readings.{stateColumn, countColumn}
 use Rattle.meaning.specs.Plain.{Allowed}
 use Rattle.meaning.proofs.Find.{same-true}
 use Rattle.automaton.specs.Lending.{tooShort}
-use Rattle.automaton.specs.Tree.{IsTable}
+use Rattle.tree.specs.Tree.{IsTable}
 use Rattle.automaton.specs.declared.lending.Judged.the-variants as judge
 use Rattle.columns.specs.Columns.{Columns, Scanned}
 use Rattle.columns.specs.Scans.{Room, areColumns}

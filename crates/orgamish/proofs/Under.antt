@@ -52,7 +52,8 @@ words-as-bytes d bytes = words-lent identity d is-map ∙ identity-dictionary d 
 pub book-as-bytes : (b : List ℕ) → LettersBelow letterValues b → bookUnder identity b ≡ byteBook b
 book-as-bytes b bytes = book-lent identity b is-map ∙ identity-book b bytes
 
--- .. so whatever a call answers by its words and its text, it answers by the bytes
+-- .. so whatever a call answers by its words and its text, it answers by the bytes: take for `answer` any definition of `Calls`,
+-- as in λ run t. scanTells run tb t ss cs
 pub answers-as-bytes : {A : Type 0} (answer : Run → Word → A) (d u : List ℕ) → LettersBelow letterValues d → LettersBelow letterValues u
     → answer (wordsUnder identity d) (mapped identity u) ≡ answer (byteDictionary d) u
 answers-as-bytes answer d u bytes text = ap₂ answer (words-as-bytes d bytes) (mapped-identity u text)

@@ -1,17 +1,17 @@
 // The tests that the calls share, in order: 18, dictionary, 7, 8, 9, 10, 11.
 ghost use mathlib.Core.Path.{_≡_};
 ghost use Rattle.records.specs.Letters.{mapped};
-ghost use Rattle.automaton.specs.Forms.{tableIn};
+ghost use Rattle.tree.specs.Forms.{tableIn};
 ghost use Rattle.orgamish.specs.Under.{wordsUnder};
 ghost use Rattle.orgamish.specs.Order.{tableRefusal, scanRefusal, listRefusal};
 ghost use Rattle.orgamish.specs.Judging.{verdict};
 use crate::maps::check_words;
-use automaton::Form;
 use automaton::Judged;
 use automaton::judge_table;
 use columns::are_columns;
 use records::Dictionary;
 use records::LONGEST_TEXT;
+use tree::Form;
 
 // Nothing is refused so far; or a refusal.
 pub enum Verdict {

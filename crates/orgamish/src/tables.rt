@@ -1,6 +1,6 @@
 // Tables: built, and moved from one form to the other.
 ghost use mathlib.Core.Path.{_≡_};
-ghost use Rattle.automaton.specs.Forms.{tableIn};
+ghost use Rattle.tree.specs.Forms.{tableIn};
 ghost use Rattle.orgamish.specs.Under.{wordsUnder};
 ghost use Rattle.orgamish.specs.Calls.{writeTells, writeLeaves, moveTells, moveLeaves, buildTells, buildLeaves, widenTells, widenLeaves, narrowTells, narrowLeaves};
 ghost use Rattle.orgamish.specs.Answers.{buildTold};
@@ -8,12 +8,12 @@ use crate::answers::BuildAnswer;
 use crate::judging::Verdict;
 use crate::judging::judge_rows;
 use crate::maps::check_words;
-use automaton::Form;
 use automaton::Wrote;
 use automaton::write_table;
 use records::Dictionary;
+use tree::Form;
 
-// In either form.
+// The table that a dictionary gives is written in either form.
 fn build_in(map: &[u8], dict: &[u8], form: Form, table: &mut [u16]) -> BuildAnswer
     ensures { λ r. ⌜
         (buildTold r ≡ writeTells (tableIn form) (wordsUnder (now (map .entry)) (now (dict .entry))) (now (table .entry)))

@@ -5,7 +5,7 @@ use native.Mathlib.Omega.{arith}
 use lib.ListN.{length}
 use Rattle.meaning.specs.Numbers.{mostStates}
 use Rattle.meaning.specs.Words.{Words}
-use Rattle.automaton.specs.Insertion.{Growing}
+use Rattle.tree.specs.Insertion.{Growing}
 use Rattle.automaton.proofs.Breadth.{Going, begins, takes, goes, ends, queue-fits}
 use Rattle.automaton.proofs.borders.complete_rows.Statement.{statement}
 use Rattle.automaton.proofs.borders.complete_rows.Tie as tie

@@ -2,7 +2,7 @@
 use mathlib.Core.Path.{_∙_}
 use Rattle.meaning.specs.Words.{Words}
 use Rattle.automaton.specs.Queue.{Taking}
-use Rattle.automaton.proofs.Walk.{state-row, left}
+use Rattle.tree.proofs.Walk.{state-row, left}
 use Rattle.automaton.proofs.Queue.{Filling, fills, filled, settling, after-row, fills-on, fills-less}
 use Rattle.automaton.proofs.borders.take_out.Statement.{statement}
 use Rattle.automaton.proofs.borders.take_out.Tie as tie

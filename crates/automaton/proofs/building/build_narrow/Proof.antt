@@ -2,7 +2,7 @@
 use mathlib.Core.Path.{refl}
 use native.Mathlib.Omega.{arith}
 use Rattle.meaning.proofs.States.{allowed-bounded}
-use Rattle.automaton.specs.declared.layout.Form.the-variants.{Wide}
+use Rattle.tree.specs.declared.layout.Form.the-variants.{Wide}
 use Rattle.automaton.proofs.Finishing.{narrowed}
 use Rattle.automaton.proofs.Lent.{roomy, end-is, made-room}
 use borrow.Author.Needs.{needs}

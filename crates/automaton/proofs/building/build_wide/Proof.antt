@@ -5,7 +5,7 @@ use Prim.Native.Nat.{ℕ}
 use lib.ListN.{replicate, getD-replicate}
 use Rattle.meaning.specs.Words.{Words}
 use Rattle.meaning.specs.Numbers.{letterValues, absent}
-use Rattle.automaton.specs.declared.layout.Form.the-variants.{Wide}
+use Rattle.tree.specs.declared.layout.Form.the-variants.{Wide}
 use Rattle.automaton.specs.Building.{Buildable, Plantable}
 use Rattle.automaton.proofs.Finishing.{all-planted, finished}
 use Rattle.automaton.proofs.building.build_wide.Statement.{statement}

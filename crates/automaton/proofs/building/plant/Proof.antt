@@ -9,7 +9,7 @@ use Rattle.meaning.specs.Numbers.{mostStates}
 use Rattle.meaning.specs.Words.{Words}
 use Rattle.meaning.specs.Automaton.{states}
 use Rattle.meaning.specs.Table.{width}
-use Rattle.automaton.specs.Insertion.{Growing}
+use Rattle.tree.specs.Insertion.{Growing}
 use Rattle.automaton.specs.Building.{Accepted}
 use Rattle.automaton.proofs.Planting.{rooted, past-root, Planting, planting, starts, inside, insertable, planted-on, planted}
 use Rattle.automaton.proofs.building.plant.Statement.{statement}

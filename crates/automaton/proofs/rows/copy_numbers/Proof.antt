@@ -6,7 +6,7 @@ use lib.ListN.{take}
 use denote.Ref.{now}
 use borrow.Author.Needs.{needs}
 use Rattle.meaning.specs.Table.{over}
-use Rattle.automaton.proofs.Copied.{CopiedTo, copied-on, copied-length}
+use Rattle.tree.proofs.Copied.{CopiedTo, copied-on, copied-length}
 use Rattle.automaton.proofs.rows.copy_numbers.Statement.{statement}
 use Rattle.automaton.proofs.rows.copy_numbers.Tie as tie
 

@@ -4,7 +4,7 @@ use Prim.Native.Nat.{_-_, _≤_}
 use native.Mathlib.Omega.{arith}
 use denote.Ref.{now}
 use borrow.Author.Needs.{needs}
-use Rattle.automaton.proofs.Copied.{AlikeTo, alike-on, alike-true, alike-false}
+use Rattle.tree.proofs.Copied.{AlikeTo, alike-on, alike-true, alike-false}
 use Rattle.automaton.proofs.rows.same_numbers.Statement.{statement}
 use Rattle.automaton.proofs.rows.same_numbers.Tie as tie
 

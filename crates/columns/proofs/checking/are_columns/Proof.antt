@@ -6,7 +6,7 @@ use denote.Ref.{now}
 use lib.ListN.{length}
 use Rattle.meaning.specs.Words.{Words}
 use Rattle.records.specs.Letters.{mapped}
-use Rattle.automaton.proofs.Whole.{table-whole}
+use Rattle.tree.proofs.Whole.{table-whole}
 use Rattle.columns.specs.Entries.{Reached}
 use Rattle.columns.specs.Scans.{Room}
 use Rattle.columns.proofs.Entry.{mapped-size}

@@ -1,8 +1,8 @@
 -- `columns::entries::tally_at`: at the loop's head the words of the chain before v are counted.
 use native.Mathlib.Omega.{arith}
 use Rattle.meaning.specs.Words.{Words}
-use Rattle.automaton.proofs.Chain.{lettersLeft}
-use Rattle.automaton.proofs.Whole.{table-linked}
+use Rattle.tree.proofs.Chain.{lettersLeft}
+use Rattle.tree.proofs.Whole.{table-linked}
 use Rattle.columns.specs.Entries.{Ending}
 use Rattle.columns.proofs.Tallying.{Tallying, tally-start, tally-end, tally-row, tally-next, tally-fits, tally-few, tally-on}
 use Rattle.columns.proofs.entries.tally_at.Statement.{statement}

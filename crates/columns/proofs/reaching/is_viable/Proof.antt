@@ -3,7 +3,7 @@ use native.Mathlib.Omega.{arith}
 use Rattle.meaning.specs.Words.{Word, Words}
 use Rattle.meaning.specs.Table.{depthField}
 use Rattle.meaning.proofs.Farthest.{Climbed}
-use Rattle.automaton.specs.Layout.{fieldAt}
+use Rattle.tree.specs.Layout.{fieldAt}
 use Rattle.columns.specs.Reaching.{Standing}
 use Rattle.columns.proofs.Reach.{climb-first, climb-row, climb-fits, climb-inside, climb-viable, climb-none, climb-on, climb-less}
 use Rattle.columns.proofs.reaching.is_viable.Statement.{statement}

@@ -8,7 +8,7 @@ use lib.ListN.{length, set, length-set}
 use Rattle.meaning.specs.Numbers.{longestText}
 use Rattle.meaning.specs.Words.{Words}
 use Rattle.records.specs.Letters.{mapped}
-use Rattle.automaton.proofs.Whole.{table-whole}
+use Rattle.tree.proofs.Whole.{table-whole}
 use Rattle.columns.specs.Columns.{Scanned}
 use Rattle.columns.specs.Entries.{Reached, IsEntry}
 use Rattle.columns.specs.Scans.{Room}

@@ -3,7 +3,7 @@ use mathlib.Core.Path.{_≡_, refl, _∙_}
 use mathlib.Core.List.{List}
 use Prim.Native.Nat.{ℕ}
 use Rattle.meaning.specs.Words.{Words}
-use Rattle.automaton.proofs.Chain.{lettersLeft}
+use Rattle.tree.proofs.Chain.{lettersLeft}
 use Rattle.listing.specs.Positions.{wordsAt, sought, Walking}
 use Rattle.listing.proofs.Steps.{no-words, word-row, word-next, walking-word, walking-on}
 use Rattle.listing.proofs.Search.{seek-here, seek-past}

@@ -5,7 +5,7 @@ use Prim.Native.Nat.{ℕ}
 use native.Mathlib.Omega.{arith}
 use Rattle.meaning.specs.Words.{Word, Words}
 use Rattle.meaning.specs.Listing.{pick}
-use Rattle.automaton.proofs.Chain.{lettersLeft}
+use Rattle.tree.proofs.Chain.{lettersLeft}
 use Rattle.listing.specs.Positions.{wordsAt, Ending}
 use Rattle.listing.proofs.Steps.{no-words, word-row, word-next, walking-word, ending-inside, ending-fits, ending-picked, ending-passed, ending-on}
 use Rattle.listing.proofs.ending.pick.Statement.{statement}

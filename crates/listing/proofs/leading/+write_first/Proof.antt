@@ -18,8 +18,8 @@ use Rattle.listing.proofs.Writes.{written-none, written-more}
 use Rattle.listing.proofs.leading.write_first.Reads as write-first
 use Rattle.listing.proofs.leading.write_first.Kinds as write-first-kinds
 use Rattle.listing.proofs.leading.+write_first.Lts-write_first as write-first-lts
-use Rattle.automaton.proofs.depth.Reads as depth-reads
-use Rattle.automaton.proofs.word.Reads as word-reads
+use Rattle.tree.proofs.depth.Reads as depth-reads
+use Rattle.tree.proofs.word.Reads as word-reads
 use Rattle.listing.proofs.ending.last_word.Reads as last-word-reads
 use Rattle.listing.proofs.leading.+write_first.{statement}
 use Rattle.listing.proofs.leading.+write_first.Tie.{close}

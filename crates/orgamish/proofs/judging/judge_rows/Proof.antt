@@ -6,7 +6,7 @@ use denote.Ref.{now}
 use Rattle.records.specs.Told.{dictionaryTold}
 use Rattle.records.proofs.Determined.{RanAs, told-ran, told-refused}
 use Rattle.automaton.specs.Building.{Accepted}
-use Rattle.automaton.specs.Forms.{tableIn}
+use Rattle.tree.specs.Forms.{tableIn}
 use Rattle.automaton.specs.Lending.{judged}
 use Rattle.automaton.specs.declared.lending.Judged.{Judged}
 use Rattle.orgamish.specs.Under.{wordsUnder}

@@ -13,7 +13,7 @@ use Rattle.records.specs.Run.{Run}
 use Rattle.records.specs.Told.{dictionaryTold, answer}
 use Rattle.records.proofs.Determined.{RanAs, told-ran, told-refused}
 use Rattle.automaton.specs.Building.{Accepted}
-use Rattle.automaton.specs.Forms.{tableIn}
+use Rattle.tree.specs.Forms.{tableIn}
 use Rattle.automaton.specs.Lending.{tooShort}
 use Rattle.orgamish.specs.Under.{wordsUnder}
 use Rattle.orgamish.specs.Order.{buildRefusal}

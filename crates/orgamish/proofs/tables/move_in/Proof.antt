@@ -7,7 +7,7 @@ use denote.Ref.{now}
 use Rattle.meaning.specs.Words.{Words}
 use Rattle.meaning.specs.Table.{over}
 use Rattle.records.specs.Run.{Run}
-use Rattle.automaton.specs.Forms.{tableIn}
+use Rattle.tree.specs.Forms.{tableIn}
 use Rattle.orgamish.specs.Under.{wordsUnder}
 use Rattle.orgamish.specs.Order.{_andThen_, tableRefusal, buildRefusal}
 use Rattle.orgamish.specs.Calls.{measures}

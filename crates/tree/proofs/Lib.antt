@@ -1,0 +1,10 @@
+pub mod Cells
+pub mod Walk
+pub mod Climb
+pub mod NewState
+pub mod Grow
+pub mod Inserting
+pub mod Chain
+pub mod RootIndex
+pub mod Copied
+pub mod Whole

@@ -1,0 +1,33 @@
+// The rows of the automaton table: where their fields stand, the tree that words put into it make, and the walks over it.
+mod chains;
+mod children;
+mod index;
+mod insertion;
+mod layout;
+mod stepping;
+
+pub use chains::count_chain;
+pub use chains::first_word;
+pub use chains::longest_chain;
+pub use index::NO_CHILD;
+pub use index::root_index;
+pub use insertion::insert_word;
+pub use layout::Form;
+pub use layout::MOST_NUMBERS;
+pub use layout::NONE;
+pub use layout::add_row;
+pub use layout::border;
+pub use layout::depth;
+pub use layout::first_child;
+pub use layout::letter;
+pub use layout::link;
+pub use layout::narrow_rows;
+pub use layout::next_sibling;
+pub use layout::row_width;
+pub use layout::set_border;
+pub use layout::set_chain_length;
+pub use layout::set_link;
+pub use layout::wide;
+pub use layout::word;
+pub use stepping::child_border;
+pub use stepping::step;
