@@ -1,10 +1,11 @@
--- The marked examples P1 to P10 of document 01, as one list and one claim; and its example of a book.
+-- The marked examples P1 to P10 of document 01, as one list and one claim; its example of a book; and two of letter maps.
 use mathlib.Core.Path.{_≡_, refl}
 use mathlib.Core.Bool.{Bool, true, false}
 use mathlib.Core.Option.{Option, none, some}
 use mathlib.Core.List.{List, [], _∷_, _++_, map}
 use Prim.Native.Nat.{ℕ}
-use lib.ListN.{length}
+use lib.ListN.{length, set, replicate}
+use Rattle.meaning.specs.Numbers.{letterValues}
 use Rattle.meaning.specs.Words.{Word, Words, Reading}
 use Rattle.meaning.specs.Automaton.{states, longestChain}
 use Rattle.meaning.specs.Table.{childFrom, table}
@@ -12,7 +13,7 @@ use Rattle.meaning.specs.Readings.{readings, accepted, countAt, stateColumn, co
 use Rattle.meaning.specs.Listing.{firstReading, nextReading}
 use Rattle.records.specs.Letters.{identity}
 use Rattle.records.specs.Record.{blockMark}
-use Rattle.records.specs.Run.{run, dictionary}
+use Rattle.records.specs.Run.{ran, run, dictionary}
 use Rattle.records.specs.Book.{book, blocks, opened}
 use Rattle.records.specs.Told.{Told, refusal, runTells, bookTells}
 use Rattle.records.specs.Stored.{wordRecord, wordRecords}
@@ -184,3 +185,13 @@ late-word = refl
 pub no-block-here : runTells (dictionary identity (wordRecords E ++ blockRecord aaa)) ≡ refusal 1 5
 unfolding run identity
 no-block-here = refl
+
+-- a map under which b is a: the words a and b are one
+pub joined-twice : runTells (dictionary (set identity b a) (wordRecords ((a ∷ []) ∷ (b ∷ []) ∷ []))) ≡ refusal 6 1
+unfolding run identity
+joined-twice = refl
+
+-- one that sends each byte to 0: marks and lengths stay, and the words a and aa are of that letter
+pub marks-stay : dictionary (replicate letterValues 0) (wordRecords A) ≡ ran ((0 ∷ []) ∷ (0 ∷ 0 ∷ []) ∷ []) 9
+unfolding run
+marks-stay = refl
