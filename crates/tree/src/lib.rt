@@ -1,4 +1,4 @@
-// The rows of the automaton table: where their fields stand, the tree that words put into it make, and the walks over it.
+// The rows of the automaton table: where their fields stand, the tree that words make of them, and the walks over it.
 mod chains;
 mod children;
 mod index;
