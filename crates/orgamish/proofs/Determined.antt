@@ -9,7 +9,7 @@ use Rattle.records.specs.Run.{Run}
 use Rattle.records.specs.Book.{Opened}
 use Rattle.records.specs.Told.{Told}
 use Rattle.records.proofs.Determined.{parts}
-use Rattle.orgamish.specs.Calls.{flag, buildTells, buildLeaves, widenTells, widenLeaves, narrowTells, narrowLeaves, scanTells, scanLeavesStates, scanLeavesCounts, firstTells, firstLeaves, nextTells, nextLeaves, bookTells}
+use Rattle.orgamish.specs.Calls.{flag, buildTells, buildLeaves, widenTells, widenLeaves, narrowTells, narrowLeaves, scanTells, scanLeavesStates, scanLeavesCounts, firstTells, firstLeaves, nextTells, nextLeaves, checkTells}
 use Rattle.orgamish.specs.Answers.{buildTold, scanTold, firstTold, nextTold, bookTold}
 use Rattle.orgamish.specs.declared.answers.BuildAnswer.{BuildAnswer}
 use Rattle.orgamish.specs.declared.answers.BuildAnswer.the-variants as built
@@ -113,5 +113,5 @@ module _ (run : Run) (tb : List ℕ) where
         pub next-decides : (r s : NextAnswer) (v w : List ℕ) → NextAllows r v → NextAllows s w → (r ≡ s) × (v ≡ w)
         next-decides r s v w p q = (next-once r s (p .0 ∙ sym (q .0)), p .1 ∙ sym (q .1))
 
-pub book-decides : (o : Opened) (r s : BookAnswer) → bookTold r ≡ bookTells o → bookTold s ≡ bookTells o → r ≡ s
+pub book-decides : (o : Opened) (r s : BookAnswer) → bookTold r ≡ checkTells o → bookTold s ≡ checkTells o → r ≡ s
 book-decides o r s p q = book-once r s (p ∙ sym q)

@@ -120,6 +120,6 @@ module _ (run : Run) (tb : List ℕ) where
             (λ X. listed (nextReading X t (take k buffer)) buffer) buffer run
 
 -- the book check, which leaves nothing changed
-abbrev pub bookTells : Opened → Told
-bookTells (opened X start T) = answer (length X ∷ length T ∷ [])
-bookTells (shut number place) = refusal number place
+abbrev pub checkTells : Opened → Told
+checkTells (opened X start T) = answer (length X ∷ length T ∷ [])
+checkTells (shut number place) = refusal number place

@@ -3,7 +3,7 @@ ghost use mathlib.Core.Path.{_≡_};
 ghost use Rattle.meaning.specs.Words.{word as textOf};
 ghost use Rattle.records.specs.Book.{textsOf};
 ghost use Rattle.orgamish.specs.Under.{bookUnder};
-ghost use Rattle.orgamish.specs.Calls.{bookTells};
+ghost use Rattle.orgamish.specs.Calls.{checkTells};
 ghost use Rattle.orgamish.specs.Answers.{bookTold};
 use crate::answers::BookAnswer;
 use crate::maps::is_map;
@@ -13,7 +13,7 @@ use records::check_book as check_records;
 
 // How many words and blocks a book has.
 pub fn check_book(map: &[u8], book: &[u8]) -> BookAnswer
-    ensures { λ r. ⌜ bookTold r ≡ bookTells (bookUnder (now (map .entry)) (now (book .entry))) ⌝ }
+    ensures { λ r. ⌜ bookTold r ≡ checkTells (bookUnder (now (map .entry)) (now (book .entry))) ⌝ }
 {
     if !is_map(map) {
         return BookAnswer::Refused {

@@ -6,16 +6,15 @@ use mathlib.Core.Bool.{Bool, true, false}
 use mathlib.Core.List.{List, [], _∷_, _++_, map}
 use Prim.Native.Nat.{ℕ, zero, suc, _+_, _<_}
 use native.Mathlib.Omega.{arith}
-use lib.Dec.{leb, ltb}
 use lib.ListN.{length, drop, length-map, length-take, length-drop}
 use lib.Seq.{getD-take, getD-drop}
-use Rattle.meaning.specs.Numbers.{mostWords, mostLetters, letterValues, longestBook}
-use Rattle.meaning.specs.Words.{if_then_else_, Word as Letters, Words, Reading, snoc, has, word, total, joined}
+use Rattle.meaning.specs.Numbers.{mostWords, letterValues}
+use Rattle.meaning.specs.Words.{Word as Letters, Words, Reading, snoc, word, joined}
 use Rattle.meaning.specs.Plain.{Storable, IsReading, LettersBelow}
 use Rattle.records.specs.Letters.{letter, mapped, identity, part, Alike, ReadsUnder}
 use Rattle.records.specs.Record.{recordAt, wordAt}
-use Rattle.records.specs.Run.{joined as joinedBy, recordAfter, Run, refused, onRecord, runFrom, run, dictionary, byteDictionary}
-use Rattle.records.specs.Book.{withBlocks, book, byteBook}
+use Rattle.records.specs.Run.{joining, joined as joinedBy, recordAfter, Run, onRecord, runFrom, run, dictionary, byteDictionary}
+use Rattle.records.specs.Book.{book, byteBook}
 use Rattle.records.specs.declared.record.Record.{Record}
 use Rattle.records.specs.declared.record.Record.the-variants.{End, Block, Word, Bad}
 use Rattle.records.proofs.Bytes.{mapped-identity}
@@ -25,13 +24,7 @@ module _ (inBook : Bool) (k ℓ : List ℕ → Letters) (b : List ℕ) (agree : 
   after-agrees : (X : Words) (at : ℕ) (r : Record) → joinedBy k b X at r ≡ joinedBy ℓ b X at r
   after-agrees X at End = refl
   after-agrees X at Block = refl
-  after-agrees X at (Word n) =
-      ap (λ (w : Letters).
-      if leb mostWords (length X) then Bad 4
-      else if ltb mostLetters (total X + n) then Bad 5
-      else if has X w then Bad 6
-      else Word n)
-      (agree (at + 3) n)
+  after-agrees X at (Word n) = ap (λ (w : Letters). joining (λ u. w) b X at n) (agree (at + 3) n)
   after-agrees X at (Bad number) = refl
 
   from-agrees : (f : ℕ) (X : Words) (at : ℕ) → runFrom inBook k b f X at ≡ runFrom inBook ℓ b f X at
@@ -72,7 +65,7 @@ module _ (b : List ℕ) (bytes : LettersBelow letterValues b) where
   identity-dictionary = own-run false
 
   pub identity-book : book identity b ≡ byteBook b
-  identity-book = ap (λ (r : Run). withBlocks b (if ltb longestBook (length b) then refused 16 0 else r)) (own-run true)
+  identity-book = rw (own-run true)
 
 -- words joined, and mapped
 mapped-append : (m u v : List ℕ) → mapped m (u ++ v) ≡ mapped m u ++ mapped m v

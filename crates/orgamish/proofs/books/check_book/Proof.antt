@@ -8,7 +8,7 @@ use Rattle.records.specs.Book.{Opened, opened, book}
 use Rattle.records.specs.Told.{answer, bookTold}
 use Rattle.records.proofs.Determined.{told-opened, told-shut}
 use Rattle.orgamish.specs.Under.{bookUnder}
-use Rattle.orgamish.specs.Calls.{bookTells}
+use Rattle.orgamish.specs.Calls.{checkTells}
 use Rattle.orgamish.proofs.Under.{map-first-book, book-lent}
 use Rattle.orgamish.proofs.books.check_book.Statement.{statement}
 use Rattle.orgamish.proofs.books.check_book.Tie as tie
@@ -35,7 +35,7 @@ returns : tie.Need-returns
 returns c =
     let d = c .before in
     let a = begun d .args in
-    sym (ap bookTells (map-first-book (now (a .map)) (now (a .book)) (sym (d .is-map .ensures) ∙ not-true _ (c .if1 .taken))))
+    sym (ap checkTells (map-first-book (now (a .map)) (now (a .book)) (sym (d .is-map .ensures) ∙ not-true _ (c .if1 .taken))))
 
 check-book-requires : tie.Need-check-book-requires
 check-book-requires c κs = search needs
@@ -49,7 +49,7 @@ enum-known-words c = search needs
 returns-2 : tie.Need-returns-2
 returns-2 c =
     let d = c .before .before .before in
-    ap bookTells (sym (told-shut (opens d) (ap bookTold (sym (c .before .number .given .1)) ∙ d .check-book .ensures)) ∙ lent d)
+    ap checkTells (sym (told-shut (opens d) (ap bookTold (sym (c .before .number .given .1)) ∙ d .check-book .ensures)) ∙ lent d)
 
 returns-3 : tie.Need-returns-3
 returns-3 c =
@@ -58,8 +58,8 @@ returns-3 c =
     let g = c .before .words .given .0 in
     let count = w .count in
     let blocks = w .blocks in
-    let same : answer (g .0 ∷ g .1 .0 ∷ []) ≡ bookTells (opened (w .X) (g .1 .1 .0) (w .T)) = cc in
-    same ∙ ap bookTells (sym (w .is) ∙ lent d)
+    let same : answer (g .0 ∷ g .1 .0 ∷ []) ≡ checkTells (opened (w .X) (g .1 .1 .0) (w .T)) = cc in
+    same ∙ ap checkTells (sym (w .is) ∙ lent d)
 
 pub check-book-spec : {M : Type 1} → statement M
 check-book-spec =
