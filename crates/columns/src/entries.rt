@@ -13,7 +13,7 @@ use tree::link;
 use tree::step;
 
 // The greatest count. It stands for every number of readings that is not below it.
-const MOST: u64 = 18446744073709551615;
+pub const MOST_COUNTED: u64 = 18446744073709551615;
 
 fn letter_at(map: &[u8], text: &[u8], i: usize) -> usize
     requires { ⌜ i < length (now text) ⌝ }
@@ -25,7 +25,11 @@ fn letter_at(map: &[u8], text: &[u8], i: usize) -> usize
 fn add_capped(a: u64, b: u64) -> u64
     ensures { λ r. ⌜ r ≡ capped (a + b) ⌝ }
 {
-    if a <= MOST - b { a + b } else { MOST }
+    if a <= MOST_COUNTED - b {
+        a + b
+    } else {
+        MOST_COUNTED
+    }
 }
 
 // The counts before the words that end at a position, added up, and how many words these are.

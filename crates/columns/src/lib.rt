@@ -5,5 +5,6 @@ mod reaching;
 mod scanning;
 
 pub use checking::are_columns;
+pub use entries::MOST_COUNTED;
 pub use scanning::Findings;
 pub use scanning::scan;

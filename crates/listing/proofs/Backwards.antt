@@ -2,14 +2,14 @@
 use mathlib.Core.Path.{_≡_, sym, ap, _∙_, subst}
 use mathlib.Core.Bool.{false}
 use mathlib.Core.Logic.{_↔_}
-use mathlib.Core.List.{List, List·Memᴰ}
+use mathlib.Core.List.{List, [], _∷_, List·Memᴰ}
 use Prim.Native.Nat.{ℕ, suc, _-_, _≤_}
 use native.Mathlib.Decide.{ℕ-discrete}
 use native.Mathlib.Omega.{arith}
 use borrow.Author.Tests.{eq-eqb, ne-eqb}
 use lib.Dec.{eqb}
-use lib.ListN.{length, getD, take, length-take}
-use lib.Seq.{take-suc, take-length}
+use lib.ListN.{length, getD, take, drop, length-take}
+use lib.Seq.{drop-length, take-suc, drop-cons, getD-take, take-length, length-take-le}
 use Rattle.meaning.specs.Words.{Word, Words, Reading, snoc, size}
 use Rattle.meaning.specs.Automaton.{chain}
 use Rattle.meaning.specs.Table.{depthField}
@@ -26,6 +26,17 @@ pub take-last : (l : List ℕ) {j n : ℕ} → (j ≡ 0 → ⊥) → j ≤ lengt
 take-last l {j} f h e =
     let q : j ≡ suc (j - 1) = omega (arith, f) in
     ap (λ (k : ℕ). take k l) q ∙ take-suc l (j - 1) 0 (omega (arith, f)) ∙ ap (snoc (take (j - 1) l)) (sym e)
+
+-- the words from entry j on, of the first k: none at first, and then one more
+pub drop-all : (l : List ℕ) (k : ℕ) → k ≤ length l → drop k (take k l) ≡ []
+drop-all l k h = ap (λ (i : ℕ). drop i (take k l)) (sym (length-take-le k l h)) ∙ drop-length (take k l)
+
+pub drop-last : (l : List ℕ) (j k : ℕ) {n : ℕ} → (j ≡ 0 → ⊥) → j ≤ k → k ≤ length l → n ≡ getD l (j - 1) 0
+    → drop (j - 1) (take k l) ≡ n ∷ drop j (take k l)
+drop-last l j k f low room e =
+    let q : suc (j - 1) ≡ j = omega (arith, f) in
+    drop-cons (take k l) (j - 1) 0 (omega (arith, f, length-take k l))
+    ∙ rw (q, getD-take k l (j - 1) 0 (omega (arith, f)), e)
 
 -- a word that ends at a position, and the position before it
 module _ {X : Words} {t : Word} {tb ss : List ℕ} {i n v d : ℕ} (α : Placed X t tb ss i)

@@ -5,7 +5,7 @@ use mathlib.Core.List.{List, [], _∷_, append-nil, List·Memᴰ}
 use Prim.Native.Nat.{ℕ, suc, _+_, _-_, _≤_}
 use native.Mathlib.Omega.{arith}
 use lib.ListN.{length, getD, take, drop, length-take}
-use lib.Seq.{drop-length, drop-cons, getD-take, append-snoc, length-take-le, take-length}
+use lib.Seq.{append-snoc, take-length}
 use Rattle.meaning.specs.Numbers.{absent}
 use Rattle.meaning.specs.Words.{Word, Words, Reading, snoc, size, joined}
 use Rattle.meaning.specs.Automaton.{chain}
@@ -22,7 +22,7 @@ use Rattle.listing.specs.Positions.{wordsAt, IsWord, StateOf, Placed, En
 use Rattle.listing.specs.Changes.{Changes}
 use Rattle.listing.proofs.Steps.{word-some, word-size, word-next, placed}
 use Rattle.listing.proofs.Search.{behind-mem, behind-link}
-use Rattle.listing.proofs.Backwards.{take-last, by-last, place-before}
+use Rattle.listing.proofs.Backwards.{take-last, by-last, place-before, drop-all, drop-last}
 
 -- the words from entry j on are looked at; `best` is what the leftmost change among them makes
 pub record Leftmost (X : Words) (t : Word) (tb ss l : List ℕ) (k i j state end kept : ℕ) : Type 0 where
@@ -42,14 +42,13 @@ pub leftmost-all : {X : Words} {t : Word} {tb ss cs l : List ℕ} {m k : ℕ} �
     → Leftmost X t tb ss l k m k absent 0 k
 leftmost-all {X} {t} {l = l} {m} {k} g =
     let e : take m t ≡ t = ap (λ (i : ℕ). take i t) (g .whole .long) ∙ take-length t in
-    let d : drop k (take k l) ≡ [] = ap (λ (i : ℕ). drop i (take k l)) (sym (length-take-le k l (g .room))) ∙ drop-length (take k l) in
     record {
       at = placed (record { scanned = g .whole .scanned; place = omega (arith, g .whole .long) });
       low = omega arith;
       reads = rw e (g .reads);
       best = none;
       change = refl;
-      is = rw d (keep-all (nextReading X t (take k l)));
+      is = rw (drop-all l k (g .room)) (keep-all (nextReading X t (take k l)));
     }
 
 -- in the end all are
@@ -94,10 +93,7 @@ module _ {X : Words} {t : Word} {tb ss l : List ℕ} {k i j state end kept n : �
   last-member = last .0
 
   rest : drop (j - 1) (take k l) ≡ n ∷ drop j (take k l)
-  rest =
-      let q : suc (j - 1) ≡ j = omega (arith, f) in
-      drop-cons (take k l) (j - 1) 0 (omega (arith, f, μ .low, length-take k l))
-      ∙ rw (q, getD-take k l (j - 1) 0 (omega (arith, f, μ .low)), e)
+  rest = drop-last l j k f (μ .low) room e
 
   split : nextReading X t (take k l)
       ≡ keeping (nextReading X t (take (j - 1) l)) (drop (j - 1) (take k l)) (keeping (changed X t i n) (drop j (take k l)) (μ .best))

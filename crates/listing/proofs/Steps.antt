@@ -74,20 +74,20 @@ module _ {X : Words} {t : Word} {tb cs : List ℕ} {v i n : ℕ} (ε : Ending X 
     pub ending-fits : d ≤ i
     ending-fits = omega (arith, word-size ι w e, fits)
 
-    before : getD cs (i - d) 0 ≡ countAt X t (i - size X n)
-    before =
+    pub ending-count : getD cs (i - d) 0 ≡ countAt X t (i - size X n)
+    ending-count =
         column-at (countAt X t) (suc (length t)) cs (ε .counts) (i - d) (omega (arith, ε .place))
         ∙ ap (λ (k : ℕ). countAt X t (i - k)) (word-size ι w e)
 
     pub ending-picked : (getD cs (i - d) 0 ≡ 0 → ⊥) → pick X t i (wordsAt X v) ≡ some n
     ending-picked f =
         ap (pick X t i) (word-next ι w refl .is)
-        ∙ pick-here X t i n (wordsAt X (fieldAt tb v linkField)) (count-readable X t (i - size X n) .1 (omega (arith, before, f)))
+        ∙ pick-here X t i n (wordsAt X (fieldAt tb v linkField)) (count-readable X t (i - size X n) .1 (omega (arith, ending-count, f)))
 
     pub ending-passed : {l : ℕ} → l ≡ fieldAt tb v linkField → getD cs (i - d) 0 ≡ 0 → pick X t i (wordsAt X v) ≡ pick X t i (wordsAt X l)
     ending-passed {l} k f =
         ap (pick X t i) (word-next ι w k .is)
-        ∙ pick-past X t i n (wordsAt X l) (count-unreadable X t (i - size X n) .1 (sym before ∙ f))
+        ∙ pick-past X t i n (wordsAt X l) (count-unreadable X t (i - size X n) .1 (sym ending-count ∙ f))
 
   pub ending-on : {l : ℕ} → l ≡ fieldAt tb v linkField → Ending X t tb cs l i
   ending-on e = record {

@@ -47,8 +47,8 @@ module _ {X : Words} {t : Word} {tb ss cs : List ℕ} {m : ℕ} (ω : Whole X t 
   pub whole-inside : m < length cs
   whole-inside = omega (arith, column-long (countAt X t) (suc (length t)) cs (ω .scanned .columns .counts), ω .long)
 
-  count : getD cs m 0 ≡ countAt X t m
-  count = column-at (countAt X t) (suc (length t)) cs (ω .scanned .columns .counts) m (omega (arith, ω .long))
+  pub whole-count : getD cs m 0 ≡ countAt X t m
+  whole-count = column-at (countAt X t) (suc (length t)) cs (ω .scanned .columns .counts) m (omega (arith, ω .long))
 
   head-none : (l : List Reading) → isNonempty l ≡ false → head? l ≡ none
   head-none [] e = refl
@@ -56,13 +56,13 @@ module _ {X : Words} {t : Word} {tb ss cs : List ℕ} {m : ℕ} (ω : Whole X t 
 
   pub whole-none : getD cs m 0 ≡ 0 → head? (readings X t) ≡ none
   whole-none z =
-      head-none (readings X t) (count-unreadable X t (length t) .1 (ap (countAt X t) (sym (ω .long)) ∙ sym count ∙ z))
+      head-none (readings X t) (count-unreadable X t (length t) .1 (ap (countAt X t) (sym (ω .long)) ∙ sym whole-count ∙ z))
 
   module _ (f : getD cs m 0 ≡ 0 → ⊥) where
     pub whole-readable : Readable X t tb ss cs m
     whole-readable = record {
       at = record { scanned = ω .scanned; place = omega (arith, ω .long) };
-      reads = count-readable X t m .1 (omega (arith, count, f));
+      reads = count-readable X t m .1 (omega (arith, whole-count, f));
     }
 
     pub whole-first : head? (readings X t) ≡ some (firstReading X t m)

@@ -14,7 +14,7 @@ use tree::wide;
 use tree::word;
 
 // The state of the longest word that ends at position i, or none. From there the links lead on.
-fn longest_ending(table: &[u16], states: &[u16], i: usize) -> usize
+pub fn longest_ending(table: &[u16], states: &[u16], i: usize) -> usize
     requires { ⌜ ((X : Words) × (t : Word) × Placed X t (now table) (now states) i) ⌝ }
     ensures { λ r. ⌜ ((X : Words) (t : Word) → Placed X t (now (table .entry)) (now (states .entry)) i → r ≡ stored (nearest (statesOf X) X (take i t))) ⌝ }
 {

@@ -6,6 +6,7 @@ mod leading;
 mod listed;
 mod shifting;
 
+pub use ending::longest_ending;
 pub use given::is_reading;
 pub use listed::Listed;
 pub use listed::first;

@@ -1,5 +1,13 @@
 // What the library's calls tell of a case and leave in its buffers, mixed into the checksum.
-ghost use Prim.Native.Nat.{_<_, _≤_};
+use super::mixing::at_most;
+use super::mixing::mixed_counts;
+use super::mixing::mixed_numbers;
+use super::mixing::mixed_reading;
+use super::mixing::mixed_refusal;
+use super::mixing::mixed_surprise;
+use super::mixing::size;
+use super::mixing::wide;
+use super::numbers::mixed_by_number;
 use super::sum::mixed;
 use orgamish::BuildAnswer;
 use orgamish::FirstAnswer;
@@ -14,57 +22,6 @@ use orgamish::widen;
 
 // The number of the refusal of a text that has no reading.
 const NO_READING: u16 = 12;
-
-fn wide(n: u16) -> u64
-    ensures { λ r. ⌜ r < 65536 ⌝ }
-{
-    n as u64
-}
-
-fn size(n: u16) -> usize
-    ensures { λ r. ⌜ r < 65536 ⌝ }
-{
-    n as usize
-}
-
-fn at_most(n: usize, most: usize) -> usize
-    ensures { λ r. ⌜ r ≤ most ⌝ }
-{
-    if n < most { n } else { most }
-}
-
-// The sum with the first `count` numbers.
-fn mixed_numbers(h: u64, numbers: &[u16], count: usize) -> u64 {
-    let end = at_most(count, numbers.len());
-    let mut sum = h;
-    for i in 0..end {
-        sum = mixed(sum, wide(numbers[i]));
-    }
-    sum
-}
-
-// The sum with the first `count` counts.
-fn mixed_counts(h: u64, counts: &[u64], count: usize) -> u64 {
-    let end = at_most(count, counts.len());
-    let mut sum = h;
-    for i in 0..end {
-        sum = mixed(sum, counts[i]);
-    }
-    sum
-}
-
-fn mixed_refusal(h: u64, number: u16, place: u16) -> u64 {
-    mixed(mixed(h, wide(number)), wide(place))
-}
-
-// The sum with a refusal that no case should meet.
-fn mixed_surprise(h: u64, number: u16, place: u16) -> u64 {
-    mixed_refusal(mixed(h, 2), number, place)
-}
-
-fn mixed_reading(h: u64, reading: &[u16], words: u16) -> u64 {
-    mixed_numbers(mixed(h, wide(words)), reading, size(words))
-}
 
 // The sum with the reading of so many words, those after it, and how many they are, 40 at most.
 fn mixed_from(
@@ -99,7 +56,7 @@ fn mixed_from(
     mixed(sum, listed)
 }
 
-// The sum with the readings of a scanned text.
+// The sum with the readings of a scanned text, one after the other.
 fn mixed_readings(
     h: u64,
     map: &[u8],
@@ -136,7 +93,7 @@ fn mixed_columns(h: u64, states: &[u16], counts: &[u64], positions: usize) -> u6
     mixed_counts(mixed_numbers(h, states, positions), counts, positions)
 }
 
-// The sum with what the text's scan and listing give.
+// The sum with what the text's scan and readings give.
 fn mixed_text(h: u64, map: &[u8], dict: &[u8], table: &[u16], text: &[u8]) -> u64 {
     let mut states = [0u16; 32];
     let mut counts = [0u64; 32];
@@ -152,7 +109,8 @@ fn mixed_text(h: u64, map: &[u8], dict: &[u8], table: &[u16], text: &[u8]) -> u6
             let h1 = mixed(mixed_columns(h, &states, &counts, text.len() + 1), verdict);
             let h2 = mixed(mixed(h1, wide(farthest)), count);
             let h3 = mixed(h2, probes as u64);
-            mixed_readings(h3, map, dict, table, text, &states, &counts)
+            let h4 = mixed_readings(h3, map, dict, table, text, &states, &counts);
+            mixed_by_number(h4, map, dict, table, text, &states, &counts, count)
         }
     }
 }

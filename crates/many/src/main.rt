@@ -2,9 +2,11 @@
 // is lent the case's letter map. It prints a running checksum, to be compared with that of `second`,
 // which shares no code with the library and whose main file says what the cases are and what is
 // mixed in, in which order. A refusal that is none of the expected is mixed in as 2, its number, its
-// place, and ends the case.
+// place, and what would come of that call is left out.
 mod calls;
 mod family;
+mod mixing;
+mod numbers;
 mod strings;
 mod sum;
 

@@ -13,3 +13,4 @@ pub mod Columns
 pub mod Farthest
 pub mod First
 pub mod Next
+pub mod Numbers

@@ -1,7 +1,8 @@
 -- Facts on lists that the laws of states, chains and readings use.
 use mathlib.Core.Path.{_≡_, refl, sym, ap, ap₂, _∙_, subst}
 use mathlib.Core.List.{List, [], _∷_, _++_, map, head?, List·Memᴰ, List·Memᴰ·head, List·Memᴰ·tail, List·Memᴰ·cases-cons, List·Memᴰ·append-cases, List·Memᴰ·not-nil, nil≢cons, cons≢nil, head-eq-of-cons-eq, tail-eq-of-cons-eq}
-use mathlib.Core.Logic.{_⊎_, inl, inr, ⊎-elim, ⊎-map}
+use mathlib.Core.Logic.{_⊎_, inl, inr, ⊎-elim, ⊎-map, _↔_}
+use mathlib.Core.Option.{none, some}
 use Prim.Native.Nat.{ℕ, zero, suc, _<_, _≤_, zero-le, suc-le-suc}
 use native.Mathlib.Omega.{arith}
 use native.Mathlib.Nat.{not-suc-le-zero, le-of-suc-le-suc}
@@ -49,6 +50,19 @@ mem-map {A} {B} f (x ∷ l) {y} m = go (List·Memᴰ·cases-cons m) (λ n. mem-m
 pub map-mem : {A B : Type 0} (f : A → B) {x : A} {l : List A} → List·Memᴰ x l → List·Memᴰ (f x) (map f l)
 map-mem f (List·Memᴰ·head e) = List·Memᴰ·head (ap f e)
 map-mem f (List·Memᴰ·tail m) = List·Memᴰ·tail (map-mem f m)
+
+-- what stands at a place, if anything does
+pub none-at : {A : Type 0} (l : List A) (i : ℕ) → (getElem? l i ≡ none) ↔ (length l ≤ i)
+none-at [] i = (λ e. omega arith, λ h. refl)
+none-at (x ∷ l) zero = (λ e. let z : _≡_ {A = ℕ} 0 1 = cc in absurd (omega arith), λ h. absurd (omega arith))
+none-at (x ∷ l) (suc i) =
+    let (f, g) = none-at l i in
+    (λ e. omega (arith, f e), λ h. g (omega arith))
+
+pub some-at : {A : Type 0} (l : List A) (i : ℕ) (d : A) → i < length l → getElem? l i ≡ some (getD l i d)
+some-at [] i d h = absurd (omega arith)
+some-at (x ∷ l) zero d h = refl
+some-at (x ∷ l) (suc i) d h = some-at l i d (omega arith)
 
 -- order
 pub ordered-map : {A B : Type 0} (R : A → A → Type 0) (S : B → B → Type 0) (f : A → B) → ((x y : A) → R x y → S (f x) (f y))

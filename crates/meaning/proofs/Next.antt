@@ -13,7 +13,7 @@ use Rattle.meaning.specs.Automaton.{chain}
 use Rattle.meaning.specs.Readings.{endingWith, readingsTo, readings}
 use Rattle.meaning.specs.Listing.{behind, changed, keeping, nextFrom, nextReading}
 use Rattle.meaning.specs.Plain.{Dictionary, Ordered, Shorter, IsReading}
-use Rattle.meaning.proofs.Lists.{strong-induction, index-of, split-append, split-map, head-drop}
+use Rattle.meaning.proofs.Lists.{strong-induction, index-of, none-at, split-append, split-map, head-drop}
 use Rattle.meaning.proofs.Chains.{chain-fits, chain-falls}
 use Rattle.meaning.proofs.Readings.{readingsTo-suc, readingsTo-sound, readings-are}
 use Rattle.meaning.proofs.First.{head-endingWith}
@@ -151,17 +151,10 @@ next-at X t k h =
     ∙ head-drop (readings X t) (suc k)
 
 -- so there is none exactly after the last
-getElem?-none : {A : Type 0} (l : List A) (i : ℕ) → (getElem? l i ≡ none) ↔ (length l ≤ i)
-getElem?-none [] i = (λ e. omega arith, λ h. refl)
-getElem?-none (x ∷ l) zero = (λ e. let z : _≡_ {A = ℕ} 0 1 = cc in absurd (omega arith), λ h. absurd (omega arith))
-getElem?-none (x ∷ l) (suc i) =
-    let (f, g) = getElem?-none l i in
-    (λ e. omega (arith, f e), λ h. g (omega arith))
-
 pub next-ends : (X : Words) (t : Word) (k : ℕ) → k < length (readings X t)
     → (nextReading X t (getD (readings X t) k []) ≡ none) ↔ (suc k ≡ length (readings X t))
 next-ends X t k h =
-    let (f, g) = getElem?-none (readings X t) (suc k) in
+    let (f, g) = none-at (readings X t) (suc k) in
     (λ e. omega (arith, f (sym (next-at X t k h) ∙ e)), λ e. next-at X t k h ∙ g (omega arith))
 
 -- the same of a reading: it stands at some k, and its next one at k + 1

@@ -1,7 +1,7 @@
 -- What a call tells and leaves, by the tests that were made.
 use mathlib.Core.Path.{_≡_, refl, sym, ap, _∙_}
 use mathlib.Core.Bool.{Bool, true, false}
-use mathlib.Core.List.{List}
+use mathlib.Core.List.{List, _∷_}
 use Prim.Native.Nat.{ℕ, zero, suc, _≤_}
 use native.Mathlib.Omega.{arith}
 use lib.Dec.{ltb}
@@ -16,7 +16,7 @@ use Rattle.meaning.proofs.States.{allowed-bounded}
 use Rattle.meaning.proofs.Chains.{chain-length, r-attained}
 use Rattle.meaning.proofs.Counts.{count-readable, count-unreadable}
 use Rattle.records.specs.Run.{Run, ran, refused}
-use Rattle.records.specs.Told.{refusal}
+use Rattle.records.specs.Told.{Told, refusal, answer}
 use Rattle.automaton.specs.Lending.{tooShort, wrote}
 use Rattle.automaton.specs.declared.lending.Wrote.the-variants as write
 use Rattle.orgamish.specs.Order.{_andThen_}
@@ -38,6 +38,15 @@ module _ {test : Words → ℕ} {run : Run} {X : Words} {n : ℕ} (κ : Came tes
   pub came-leaves : (after : Words → List ℕ) (before : List ℕ) → leftBy n (after X) before ≡ leaves test after before run
   came-leaves after before =
       ap (λ (k : ℕ). leftBy k (after X) before) (sym (κ .comes)) ∙ ap (leaves test after before) (sym (κ .is))
+
+-- an answer that tells values is no refusal
+pub tells-answer : (test : Words → ℕ) (values : Words → List ℕ) {run : Run} {X : Words} {end v : ℕ} {vs : List ℕ} → run ≡ ran X end
+    → tells test values run ≡ answer (v ∷ vs) → (test X ≡ 0) × (values X ≡ v ∷ vs)
+tells-answer test values {run} {X} {end} {v} {vs} is e = go (test X) refl (ap (tells test values) (sym is) ∙ e)
+  where
+    go : (n : ℕ) → test X ≡ n → toldBy n (values X) ≡ answer (v ∷ vs) → (test X ≡ 0) × (values X ≡ v ∷ vs)
+    go zero q f = (q, ap (λ (t : Told). t .values) f)
+    go (suc n) q f = absurd (omega (arith, ap (λ (t : Told). length (t .values)) f))
 
 -- the shared tests refuse
 module _ (test : Words → ℕ) where

@@ -4,13 +4,13 @@ use mathlib.Core.Bool.{Bool, true, false}
 use mathlib.Core.List.{List}
 use Prim.Native.Nat.{ℕ, zero, suc, _≤_}
 use native.Mathlib.Omega.{arith}
-use lib.Dec.{leb, ltb}
+use lib.Dec.{eqb, leb, ltb}
 use lib.ListN.{length, take}
-use borrow.Author.Tests.{ltb-false, leb-false}
-use Rattle.meaning.specs.Numbers.{longestText}
+use borrow.Author.Tests.{eqb-false, ltb-false, leb-false}
+use Rattle.meaning.specs.Numbers.{longestText, mostCounted}
 use Rattle.meaning.specs.Words.{if_then_else_, Word, Words, same}
 use Rattle.meaning.specs.Table.{table}
-use Rattle.meaning.specs.Readings.{stateColumn, countColumn}
+use Rattle.meaning.specs.Readings.{countAt, stateColumn, countColumn}
 use Rattle.meaning.specs.Plain.{Allowed}
 use Rattle.meaning.proofs.Find.{same-true}
 use Rattle.automaton.specs.Lending.{tooShort}
@@ -18,7 +18,8 @@ use Rattle.tree.specs.Tree.{IsTable}
 use Rattle.automaton.specs.declared.lending.Judged.the-variants as judge
 use Rattle.columns.specs.Columns.{Columns, Scanned}
 use Rattle.columns.specs.Scans.{Room, areColumns}
-use Rattle.orgamish.specs.Order.{_andThen_, rowsNumber, tableRefusal, textRefusal, roomRefusal, columnsRefusal, scanRefusal, listRefusal}
+use Rattle.numbering.specs.Numbers.{Exact, Exactly}
+use Rattle.orgamish.specs.Order.{_andThen_, rowsNumber, tableRefusal, textRefusal, roomRefusal, columnsRefusal, scanRefusal, listRefusal, greatestRefusal, countedRefusal}
 
 pub none-first : (m n : ℕ) → m andThen n ≡ 0 → m ≡ 0
 none-first zero n e = refl
@@ -95,3 +96,19 @@ module _ {X : Words} {tb : List ℕ} {t : Word} {ss cs : List ℕ} (α : Allowed
           → (if b then c else false) ≡ true → Columns X t ss cs
       both true c p q f = record { states = same-true _ _ p; counts = same-true _ _ (q ∙ f) }
       both false c p q f = let z : _≡_ {A = ℕ} 0 1 = cc in absurd (omega arith)
+
+-- the count at the end too
+module _ (X : Words) (tb : List ℕ) (t : Word) (ss cs : List ℕ) (e : countedRefusal X tb t ss cs ≡ 0) where
+  pub counted-lists : listRefusal X tb t ss cs ≡ 0
+  counted-lists = none-first (listRefusal X tb t ss cs) (greatestRefusal X t) e
+
+  pub counted-below : eqb (countAt X t (length t)) mostCounted ≡ false
+  counted-below =
+      test-false (eqb (countAt X t (length t)) mostCounted) 21 0 (none-second (listRefusal X tb t ss cs) (greatestRefusal X t) e)
+
+  -- one that isn't the greatest is exact
+  pub counted-exact : Exact X t (length t)
+  counted-exact = omega (arith, eqb-false (countAt X t (length t)) mostCounted counted-below)
+
+  pub exactly : Allowed X → {m : ℕ} → m ≡ length t → Exactly X t tb ss cs m
+  exactly α long = record { whole = record { scanned = scanned α counted-lists; long = long }; exact = counted-exact }

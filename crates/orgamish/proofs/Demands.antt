@@ -24,7 +24,7 @@ use Rattle.records.specs.Run.{Run, ran}
 use Rattle.records.specs.Told.{Told, answer, refusal}
 use Rattle.columns.specs.Columns.{Scanned}
 use Rattle.orgamish.specs.Order.{_andThen_, scanRefusal, listRefusal, unreadRefusal, givenRefusal, fitRefusal, firstRefusal, nextRefusal}
-use Rattle.orgamish.specs.Calls.{flag, lengthOf, listed, scanTells, firstLeaves, nextTells, nextLeaves}
+use Rattle.orgamish.specs.Calls.{flag, lengthOf, listed, scanTells, firstTells, firstLeaves, nextTells, nextLeaves}
 use Rattle.orgamish.specs.Answers.{scanTold}
 use Rattle.orgamish.specs.Listings.{Heard, heard, goOn, listingFrom, listing}
 use Rattle.orgamish.specs.declared.answers.ScanAnswer.the-variants as scan
@@ -50,10 +50,10 @@ in-split (q ∷ Q) x L = List·Memᴰ·tail (in-split Q x L)
 snoc-split : {A : Type 0} {R : List A} (Q : List A) (x y : A) (L : List A) → R ≡ Q ++ x ∷ y ∷ L → R ≡ (Q ++ x ∷ []) ++ y ∷ L
 snoc-split Q x y L e = e ∙ sym (append-assoc Q (x ∷ []) (y ∷ L))
 
-over-long : (ws b : List ℕ) → length ws ≤ length b → length (over ws b) ≡ length b
+pub over-long : (ws b : List ℕ) → length ws ≤ length b → length (over ws b) ≡ length b
 over-long ws b h = omega (arith, length-append ws (drop (length ws) b), length-drop (length ws) b)
 
-fits-buffer : (ws : Reading) (b : List ℕ) → length ws ≤ length b → fitRefusal (some ws) b ≡ 0
+pub fits-buffer : (ws : Reading) (b : List ℕ) → length ws ≤ length b → fitRefusal (some ws) b ≡ 0
 fits-buffer ws b h = rw (le-leb (length ws) (length b) h)
 
 next-behind : (X : Words) (t : Word) (Q : List Reading) (ns : Reading) (L : List Reading) → readings X t ≡ Q ++ ns ∷ L
@@ -148,7 +148,7 @@ module _ {run : Run} {X : Words} {end : ℕ} (is : run ≡ ran X end) (allowed :
       short L Q ns e = reading-short X words t ns (reads L Q ns e)
 
       -- what next tells and leaves where ns stands in the buffer
-      next-call : (L Q : List Reading) (ns : Reading) → readings X t ≡ Q ++ ns ∷ L → (b : List ℕ) → take (length ns) b ≡ ns → length t ≤ length b
+      pub next-call : (L Q : List Reading) (ns : Reading) → readings X t ≡ Q ++ ns ∷ L → (b : List ℕ) → take (length ns) b ≡ ns → length t ≤ length b
           → fitRefusal (head? L) b ≡ 0
           → (nextTells run tb t ss cs b (length ns) ≡ answer (lengthOf (head? L)))
           × (nextLeaves run tb t ss cs b (length ns) ≡ listed (head? L) b)
@@ -186,6 +186,16 @@ module _ {run : Run} {X : Words} {end : ℕ} (is : run ≡ ran X end) (allowed :
           ∙ ap (λ (q : Heard). heard (take k b ∷ q .seen) (q .last)) later
           ∙ ap (λ (ws : Reading). heard (ws ∷ ms ∷ L) End) at
 
+      -- .. and first
+      pub first-call : (L : List Reading) (ns : Reading) → readings X t ≡ ns ∷ L → (b : List ℕ) → length ns ≤ length b
+          → (firstTells run tb t ss cs b ≡ answer (1 ∷ length ns ∷ [])) × (firstLeaves run tb t ss cs b ≡ over ns b)
+      first-call L ns e b room =
+          let o : head? (readings X t) ≡ some ns = ap head? e in
+          let w = first-came b (ap (λ (q : Option Reading). unreadRefusal q andThen fitRefusal q b) o ∙ fits-buffer ns b room) in (
+            sym (came-tells w (λ Y. lengthOf (head? (readings Y t)))) ∙ ap (λ (q : Option Reading). answer (lengthOf q)) o,
+            sym (came-leaves w (λ Y. listed (head? (readings Y t)) b) b) ∙ ap (λ (q : Option Reading). listed q b) o,
+          )
+
       -- a text without a reading
       pub lists-none : (b : List ℕ) (f : ℕ) → readings X t ≡ [] → listing run tb t ss cs f b ≡ heard [] (refusal 12 0)
       lists-none b f e =
@@ -198,10 +208,7 @@ module _ {run : Run} {X : Words} {end : ℕ} (is : run ≡ ran X end) (allowed :
           → readings X t ≡ ns ∷ L → listing run tb t ss cs f b ≡ heard (readings X t) End
       lists-all b long f h ns L e =
           let room : length ns ≤ length b = omega (arith, short L [] ns e) in
-          let o : head? (readings X t) ≡ some ns = ap head? e in
-          let w = first-came b (ap (λ (q : Option Reading). unreadRefusal q andThen fitRefusal q b) o ∙ fits-buffer ns b room) in
-          let told = sym (came-tells w (λ Y. lengthOf (head? (readings Y t)))) ∙ ap (λ (q : Option Reading). answer (lengthOf q)) o in
-          let after = sym (came-leaves w (λ Y. listed (head? (readings Y t)) b) b) ∙ ap (λ (q : Option Reading). listed q b) o in
+          let (told, after) = first-call L ns e b room in
           ap (λ (a : Told). goOn (listingFrom run tb t ss cs f (firstLeaves run tb t ss cs b)) a (a .values)) told
           ∙ ap (λ (l : List ℕ). listingFrom run tb t ss cs f l (length ns)) after
           ∙ from L [] ns e (over ns b) (take-append-seam ns (drop (length ns) b)) (omega (arith, over-long ns b room)) f

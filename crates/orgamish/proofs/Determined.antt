@@ -9,8 +9,8 @@ use Rattle.records.specs.Run.{Run}
 use Rattle.records.specs.Book.{Opened}
 use Rattle.records.specs.Told.{Told}
 use Rattle.records.proofs.Determined.{parts}
-use Rattle.orgamish.specs.Calls.{flag, buildTells, buildLeaves, widenTells, widenLeaves, narrowTells, narrowLeaves, scanTells, scanLeavesStates, scanLeavesCounts, firstTells, firstLeaves, nextTells, nextLeaves, checkTells}
-use Rattle.orgamish.specs.Answers.{buildTold, scanTold, firstTold, nextTold, bookTold}
+use Rattle.orgamish.specs.Calls.{flag, buildTells, buildLeaves, widenTells, widenLeaves, narrowTells, narrowLeaves, scanTells, scanLeavesStates, scanLeavesCounts, firstTells, firstLeaves, nextTells, nextLeaves, jumpTells, jumpLeaves, placeTells, checkTells}
+use Rattle.orgamish.specs.Answers.{buildTold, scanTold, firstTold, nextTold, placeTold, bookTold}
 use Rattle.orgamish.specs.declared.answers.BuildAnswer.{BuildAnswer}
 use Rattle.orgamish.specs.declared.answers.BuildAnswer.the-variants as built
 use Rattle.orgamish.specs.declared.answers.ScanAnswer.{ScanAnswer}
@@ -19,6 +19,8 @@ use Rattle.orgamish.specs.declared.answers.FirstAnswer.{FirstAnswer}
 use Rattle.orgamish.specs.declared.answers.FirstAnswer.the-variants as first
 use Rattle.orgamish.specs.declared.answers.NextAnswer.{NextAnswer}
 use Rattle.orgamish.specs.declared.answers.NextAnswer.the-variants as next
+use Rattle.orgamish.specs.declared.answers.PlaceAnswer.{PlaceAnswer}
+use Rattle.orgamish.specs.declared.answers.PlaceAnswer.the-variants as place
 use Rattle.orgamish.specs.declared.answers.BookAnswer.{BookAnswer}
 use Rattle.orgamish.specs.declared.answers.BookAnswer.the-variants as book
 
@@ -60,6 +62,12 @@ next-once (next.Words w) (next.Refused k o) e = let p = parts e in cc
 next-once (next.Refused n p) next.End e = let p = parts e in cc
 next-once (next.Refused n p) (next.Words v) e = let p = parts e in cc
 next-once (next.Refused n p) (next.Refused k o) e = let p = parts e in cc
+
+place-once : (r s : PlaceAnswer) → placeTold r ≡ placeTold s → r ≡ s
+place-once (place.At n) (place.At m) e = let p = parts e in cc
+place-once (place.At n) (place.Refused k o) e = let p = parts e in cc
+place-once (place.Refused n p) (place.At m) e = let p = parts e in cc
+place-once (place.Refused n p) (place.Refused k o) e = let p = parts e in cc
 
 book-once : (r s : BookAnswer) → bookTold r ≡ bookTold s → r ≡ s
 book-once (book.Blocks w n) (book.Blocks v k) e = let p = parts e in cc
@@ -112,6 +120,17 @@ module _ (run : Run) (tb : List ℕ) where
 
         pub next-decides : (r s : NextAnswer) (v w : List ℕ) → NextAllows r v → NextAllows s w → (r ≡ s) × (v ≡ w)
         next-decides r s v w p q = (next-once r s (p .0 ∙ sym (q .0)), p .1 ∙ sym (q .1))
+
+        pub place-decides : (r s : PlaceAnswer) → placeTold r ≡ placeTells run tb t ss cs buffer k
+            → placeTold s ≡ placeTells run tb t ss cs buffer k → r ≡ s
+        place-decides r s p q = place-once r s (p ∙ sym q)
+
+      module _ (n : ℕ) where
+        abbrev JumpAllows : FirstAnswer → List ℕ → Type 0
+        JumpAllows r reading = (firstTold r ≡ jumpTells run tb t ss cs buffer n) × (reading ≡ jumpLeaves run tb t ss cs buffer n)
+
+        pub jump-decides : (r s : FirstAnswer) (v w : List ℕ) → JumpAllows r v → JumpAllows s w → (r ≡ s) × (v ≡ w)
+        jump-decides r s v w p q = (first-once r s (p .0 ∙ sym (q .0)), p .1 ∙ sym (q .1))
 
 pub book-decides : (o : Opened) (r s : BookAnswer) → bookTold r ≡ checkTells o → bookTold s ≡ checkTells o → r ≡ s
 book-decides o r s p q = book-once r s (p ∙ sym q)

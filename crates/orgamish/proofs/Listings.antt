@@ -1,25 +1,32 @@
--- What first and next tell and leave, by the reading that is to be written.
+-- What first, next and jump tell and leave, by the reading that is to be written.
 use mathlib.Core.Path.{_≡_, refl, sym, ap, _∙_}
 use mathlib.Core.Bool.{Bool, true, false}
 use mathlib.Core.Option.{Option, none, some}
 use mathlib.Core.List.{List, [], _∷_, head?, List·Memᴰ, List·Memᴰ·head, List·Memᴰ·tail}
 use Prim.Native.Nat.{ℕ, zero, suc, _≤_, _<_}
+use native.Mathlib.Decide.{decLt}
 use native.Mathlib.Omega.{arith}
-use borrow.Author.Tests.{ltb-false}
+use borrow.Author.Tests.{ltb-false, lt-ltb, le-ltb}
 use lib.Dec.{leb, ltb}
-use lib.ListN.{length, getElem?, take, length-append}
+use lib.ListN.{length, getD, getElem?, take, length-append}
 use Rattle.meaning.specs.Words.{if_then_else_, Word, Words, Reading, word, joined}
 use Rattle.meaning.specs.Table.{over}
-use Rattle.meaning.specs.Readings.{readings}
+use Rattle.meaning.specs.Readings.{readings, countAt}
 use Rattle.meaning.specs.Listing.{isReading, nextReading}
 use Rattle.meaning.specs.Plain.{Dictionary, IsReading}
+use Rattle.meaning.proofs.Lists.{none-at, some-at}
 use Rattle.meaning.proofs.Readings.{readings-are}
 use Rattle.meaning.proofs.Next.{next-of-reading}
-use Rattle.listing.specs.Answers.{answer, left}
+use Rattle.records.specs.Run.{Run}
+use Rattle.listing.specs.Answers.{Answers, answer, left}
 use Rattle.listing.specs.declared.listed.Listed.{Listed}
 use Rattle.listing.specs.declared.listed.Listed.the-variants as list
-use Rattle.orgamish.specs.Order.{_andThen_, unreadRefusal, isGiven, fitRefusal}
-use Rattle.orgamish.specs.Calls.{toldBy, leftBy, lengthOf, listed}
+use Rattle.numbering.specs.Numbers.{Exact}
+use Rattle.numbering.proofs.Stretches.{exact-count}
+use Rattle.orgamish.specs.Order.{_andThen_, unreadRefusal, isGiven, fitRefusal, numberRefusal}
+use Rattle.orgamish.specs.Calls.{toldBy, leftBy, tells, leaves, lengthOf, listed}
+use Rattle.orgamish.proofs.Verdicts.{Passes}
+use Rattle.orgamish.proofs.Called.{Came, came-tells, came-leaves, then-comes}
 
 -- the refusal's number, where having no reading is refused as k
 abbrev pub numberBy : ℕ → Listed → ℕ
@@ -32,23 +39,35 @@ valuesBy list.Nothing = 0 ∷ []
 valuesBy list.Short = []
 valuesBy (list.Words n) = 1 ∷ n ∷ []
 
-pub first-number : (o : Option Reading) (b : List ℕ) → unreadRefusal o andThen fitRefusal o b ≡ numberBy 12 (answer o b)
-first-number none b = refl
-first-number (some ws) b = go (leb (length ws) (length b))
+fit-number : (k : ℕ) (ws : Reading) (b : List ℕ) → fitRefusal (some ws) b ≡ numberBy k (answer (some ws) b)
+fit-number k ws b = go (leb (length ws) (length b))
   where
-    go : (q : Bool) → (if q then 0 else 14) ≡ numberBy 12 (if q then list.Words (length ws) else list.Short)
+    go : (q : Bool) → (if q then 0 else 14) ≡ numberBy k (if q then list.Words (length ws) else list.Short)
     go true = refl
     go false = refl
+
+pub first-number : (o : Option Reading) (b : List ℕ) → unreadRefusal o andThen fitRefusal o b ≡ numberBy 12 (answer o b)
+first-number none b = refl
+first-number (some ws) b = fit-number 12 ws b
 
 pub next-number : (o : Option Reading) (b : List ℕ) → fitRefusal o b ≡ numberBy 0 (answer o b)
 next-number none b = refl
-next-number (some ws) b = go (leb (length ws) (length b))
-  where
-    go : (q : Bool) → (if q then 0 else 14) ≡ numberBy 0 (if q then list.Words (length ws) else list.Short)
-    go true = refl
-    go false = refl
+next-number (some ws) b = fit-number 0 ws b
 
-pub listing-told : (k : ℕ) (o : Option Reading) (b : List ℕ)
+-- .. where the count is exact
+pub jump-number : (X : Words) (t : Word) (n : ℕ) (b : List ℕ) → Exact X t (length t)
+    → numberRefusal X t n andThen fitRefusal (getElem? (readings X t) n) b ≡ numberBy 21 (answer (getElem? (readings X t) n) b)
+jump-number X t n b h = go (decLt n (length (readings X t)))
+  where
+    count : countAt X t (length t) ≡ length (readings X t)
+    count = exact-count X t (length t) h
+
+    go : Dec (n < length (readings X t))
+        → numberRefusal X t n andThen fitRefusal (getElem? (readings X t) n) b ≡ numberBy 21 (answer (getElem? (readings X t) n) b)
+    go (yes l) = rw (lt-ltb n (countAt X t (length t)) (omega (arith, count)), some-at (readings X t) n [] l) (fit-number 21 (getD (readings X t) n []) b)
+    go (no l) = rw (le-ltb n (countAt X t (length t)) (omega (arith, count)), none-at (readings X t) n .1 (omega (arith, l)))
+
+listing-told : (k : ℕ) (o : Option Reading) (b : List ℕ)
     → toldBy (numberBy k (answer o b)) (valuesBy (answer o b)) ≡ toldBy (numberBy k (answer o b)) (lengthOf o)
 listing-told k none b = refl
 listing-told k (some ws) b = go (leb (length ws) (length b))
@@ -58,7 +77,7 @@ listing-told k (some ws) b = go (leb (length ws) (length b))
     go true = refl
     go false = refl
 
-pub listing-left : (k : ℕ) (o : Option Reading) (b : List ℕ) → left o b ≡ leftBy (numberBy k (answer o b)) (listed o b) b
+listing-left : (k : ℕ) (o : Option Reading) (b : List ℕ) → left o b ≡ leftBy (numberBy k (answer o b)) (listed o b) b
 listing-left zero none b = refl
 listing-left (suc k) none b = refl
 listing-left k (some ws) b = go (leb (length ws) (length b))
@@ -67,6 +86,23 @@ listing-left k (some ws) b = go (leb (length ws) (length b))
         ≡ leftBy (numberBy k (if q then list.Words (length ws) else list.Short)) (over ws b) b
     go true = refl
     go false = refl
+
+-- the tests before pass, and the listing answers: what a call then tells and leaves
+module _ (before rest : Words → ℕ) (chosen : Words → Option Reading) (b : List ℕ) {run : Run} (p : Passes before run) (k : ℕ)
+    (comes : rest (p .X) ≡ numberBy k (answer (chosen (p .X)) b)) {after : List ℕ} {r : Listed}
+    (α : Answers (chosen (p .X)) b after r) where
+  came : Came (λ X. before X andThen rest X) run (p .X) (numberBy k (answer (chosen (p .X)) b))
+  came = record { end = p .end; is = p .is; comes = then-comes (before (p .X)) (rest (p .X)) (p .clear) comes }
+
+  pub answer-told : {q : Listed} → q ≡ r
+      → toldBy (numberBy k q) (valuesBy q) ≡ tells (λ X. before X andThen rest X) (λ X. lengthOf (chosen X)) run
+  answer-told e =
+      ap (λ (q : Listed). toldBy (numberBy k q) (valuesBy q)) (e ∙ α .answers)
+      ∙ listing-told k (chosen (p .X)) b
+      ∙ came-tells came (λ X. lengthOf (chosen X))
+
+  pub answer-left : after ≡ leaves (λ X. before X andThen rest X) (λ X. listed (chosen X) b) b run
+  answer-left = α .buffer ∙ listing-left k (chosen (p .X)) b ∙ came-leaves came (λ X. listed (chosen X) b) b
 
 -- the reading whose words were counted
 pub answer-words : (o : Option Reading) (b : List ℕ) {n : ℕ} → list.Words n ≡ answer o b → (ws : Reading) × (o ≡ some ws) × (n ≡ length ws)
@@ -104,11 +140,15 @@ elem-mem (y ∷ l) (suc i) x e = List·Memᴰ·tail (elem-mem l i x e)
 pub first-fits : (X : Words) → Dictionary X → (t : Word) (ws : Reading) → head? (readings X t) ≡ some ws → length ws ≤ length t
 first-fits X D t ws e = reading-short X D t ws (readings-are X D t ws .0 (head-mem (readings X t) ws e))
 
+pub elem-fits : (X : Words) → Dictionary X → (t : Word) (n : ℕ) (ws : Reading) → getElem? (readings X t) n ≡ some ws
+    → length ws ≤ length t
+elem-fits X D t n ws e = reading-short X D t ws (readings-are X D t ws .0 (elem-mem (readings X t) n ws e))
+
 pub next-fits : (X : Words) → Dictionary X → (t : Word) (ns ws : Reading) → IsReading X t ns → nextReading X t ns ≡ some ws
     → length ws ≤ length t
 next-fits X D t ns ws r e =
     let (k, h, at, next) = next-of-reading X D t ns r in
-    reading-short X D t ws (readings-are X D t ws .0 (elem-mem (readings X t) (suc k) ws (sym next ∙ e)))
+    elem-fits X D t (suc k) ws (sym next ∙ e)
 
 -- the given words, where they pass
 pub given-reads : (X : Words) (t : Word) (b : List ℕ) (k : ℕ) → isGiven X t b k ≡ true → (k ≤ length b) × (isReading X t (take k b) ≡ true)

@@ -47,7 +47,7 @@ over-right T lent =
       same-refl T,
     )
 
-over-itself : (n : ℕ) (l : List ℕ) → n ≤ length l → over (take n l) l ≡ l
+pub over-itself : (n : ℕ) (l : List ℕ) → n ≤ length l → over (take n l) l ≡ l
 over-itself n l h = ap (λ (k : ℕ). take n l ++ drop k l) (length-take-le n l h) ∙ take-append-drop n l
 
 -- from one form to another, and back to numbers with room for it: they are told the same, and get the rows that the input had

@@ -10,6 +10,8 @@ use Rattle.orgamish.specs.declared.answers.FirstAnswer.{FirstAnswer}
 use Rattle.orgamish.specs.declared.answers.FirstAnswer.the-variants as first
 use Rattle.orgamish.specs.declared.answers.NextAnswer.{NextAnswer}
 use Rattle.orgamish.specs.declared.answers.NextAnswer.the-variants as next
+use Rattle.orgamish.specs.declared.answers.PlaceAnswer.{PlaceAnswer}
+use Rattle.orgamish.specs.declared.answers.PlaceAnswer.the-variants as place
 use Rattle.orgamish.specs.declared.answers.BookAnswer.{BookAnswer}
 use Rattle.orgamish.specs.declared.answers.BookAnswer.the-variants as book
 
@@ -30,6 +32,10 @@ abbrev pub nextTold : NextAnswer → Told
 nextTold (next.Words words) = answer (1 ∷ words ∷ [])
 nextTold next.End = answer (0 ∷ [])
 nextTold (next.Refused number place) = refusal number place
+
+abbrev pub placeTold : PlaceAnswer → Told
+placeTold (place.At n) = answer (n ∷ [])
+placeTold (place.Refused number place) = refusal number place
 
 abbrev pub bookTold : BookAnswer → Told
 bookTold (book.Blocks words blocks) = answer (words ∷ blocks ∷ [])

@@ -3,8 +3,8 @@ use mathlib.Core.Bool.{Bool, true, false}
 use mathlib.Core.Option.{Option, none, some}
 use mathlib.Core.List.{List, [], _∷_, head?}
 use Prim.Native.Nat.{ℕ, zero, suc}
-use lib.ListN.{length, take}
-use Rattle.meaning.specs.Words.{Word, Words, Reading}
+use lib.ListN.{length, getElem?, take}
+use Rattle.meaning.specs.Words.{Word, Words, Reading, find}
 use Rattle.meaning.specs.Automaton.{states, longestChain}
 use Rattle.meaning.specs.Table.{table, narrowTable, over}
 use Rattle.meaning.specs.Readings.{readings, accepted, countAt, stateColumn, countColumn, probes, farthest}
@@ -12,7 +12,7 @@ use Rattle.meaning.specs.Listing.{nextReading}
 use Rattle.records.specs.Run.{Run, ran, refused}
 use Rattle.records.specs.Book.{Opened, opened, shut}
 use Rattle.records.specs.Told.{Told, refusal, answer}
-use Rattle.orgamish.specs.Order.{buildRefusal, moveRefusal, scanRefusal, firstRefusal, nextRefusal}
+use Rattle.orgamish.specs.Order.{buildRefusal, moveRefusal, scanRefusal, firstRefusal, nextRefusal, jumpRefusal, placeRefusal}
 
 -- a refusal of that number, or the values where it is 0
 abbrev pub toldBy : ℕ → List ℕ → Told
@@ -45,6 +45,11 @@ lengthOf (some ws) = 1 ∷ length ws ∷ []
 abbrev pub listed : Option Reading → List ℕ → List ℕ
 listed none buffer = buffer
 listed (some ws) buffer = over ws buffer
+
+-- a place in the list of readings
+abbrev pub numberOf : Option ℕ → List ℕ
+numberOf none = []
+numberOf (some n) = n ∷ []
 
 -- words, states, r
 abbrev pub measures : Words → List ℕ
@@ -118,6 +123,18 @@ module _ (run : Run) (tb : List ℕ) where
         nextLeaves =
             leaves (λ X. nextRefusal X tb t ss cs buffer k)
             (λ X. listed (nextReading X t (take k buffer)) buffer) buffer run
+
+        abbrev pub placeTells : Told
+        placeTells = tells (λ X. placeRefusal X tb t ss cs buffer k) (λ X. numberOf (find (readings X t) (take k buffer))) run
+
+      -- reading n of the list
+      module _ (n : ℕ) where
+        abbrev pub jumpTells : Told
+        jumpTells = tells (λ X. jumpRefusal X tb t ss cs buffer n) (λ X. lengthOf (getElem? (readings X t) n)) run
+
+        abbrev pub jumpLeaves : List ℕ
+        jumpLeaves =
+            leaves (λ X. jumpRefusal X tb t ss cs buffer n) (λ X. listed (getElem? (readings X t) n) buffer) buffer run
 
 -- the book check, which leaves nothing changed
 abbrev pub checkTells : Opened → Told

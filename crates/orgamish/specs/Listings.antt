@@ -1,4 +1,4 @@
--- A listing: first, and then next until nothing more is written, the buffer untouched between the calls.
+-- A listing: first, and then next until nothing more is written, or n times; the buffer untouched between the calls.
 use mathlib.Core.List.{List, [], _∷_}
 use Prim.Native.Nat.{ℕ, zero, suc}
 use lib.ListN.{take}
@@ -21,6 +21,20 @@ goOn more told [] = heard [] told
 goOn more told (written ∷ []) = heard [] told
 goOn more told (written ∷ n ∷ rest) = more n
 
+-- what a call told, and the buffer after it
+pub record Outcome : Type 0 where
+  pub told : Told
+  pub buffer : List ℕ
+
+abbrev pub outcome : Told → List ℕ → Outcome
+outcome told buffer = record { told = told; buffer = buffer }
+
+-- the number of words told; 0 where no reading was written
+abbrev pub wordsTold : List ℕ → ℕ
+wordsTold [] = 0
+wordsTold (written ∷ []) = 0
+wordsTold (written ∷ n ∷ rest) = n
+
 module _ (run : Run) (tb : List ℕ) (t : Word) (ss cs : List ℕ) where
   -- the first k entries of the buffer are a reading; at most f calls more
   abbrev pub listingFrom : ℕ → List ℕ → ℕ → Heard
@@ -34,3 +48,11 @@ module _ (run : Run) (tb : List ℕ) (t : Word) (ss cs : List ℕ) where
   listing f buffer =
       let told = firstTells run tb t ss cs buffer in
       goOn (listingFrom f (firstLeaves run tb t ss cs buffer)) told (told .values)
+
+  -- first, and then n times next
+  abbrev pub nextTimes : ℕ → List ℕ → Outcome
+  nextTimes zero buffer = outcome (firstTells run tb t ss cs buffer) (firstLeaves run tb t ss cs buffer)
+  nextTimes (suc n) buffer =
+      let before = nextTimes n buffer in
+      let given = wordsTold (before .told .values) in
+      outcome (nextTells run tb t ss cs (before .buffer) given) (nextLeaves run tb t ss cs (before .buffer) given)

@@ -3,12 +3,12 @@ use mathlib.Core.Bool.{Bool, false}
 use mathlib.Core.Option.{Option, none, some}
 use mathlib.Core.List.{List, head?}
 use Prim.Native.Nat.{ℕ, zero, suc}
-use lib.Dec.{leb, ltb}
-use lib.ListN.{length, take}
-use Rattle.meaning.specs.Numbers.{longestText}
+use lib.Dec.{eqb, leb, ltb}
+use lib.ListN.{length, getElem?, take}
+use Rattle.meaning.specs.Numbers.{longestText, mostCounted}
 use Rattle.meaning.specs.Words.{if_then_else_, Word, Words, Reading}
 use Rattle.meaning.specs.Table.{table}
-use Rattle.meaning.specs.Readings.{readings}
+use Rattle.meaning.specs.Readings.{readings, countAt}
 use Rattle.meaning.specs.Listing.{isReading, nextReading}
 use Rattle.automaton.specs.Lending.{tooShort, judged}
 use Rattle.automaton.specs.declared.lending.Judged.{Judged}
@@ -62,6 +62,14 @@ abbrev pub fitRefusal : Option Reading → List ℕ → ℕ
 fitRefusal none buffer = 0
 fitRefusal (some ws) buffer = if leb (length ws) (length buffer) then 0 else 14
 
+-- 21: n is not below the count
+abbrev pub numberRefusal : Words → Word → ℕ → ℕ
+numberRefusal X t n = if ltb n (countAt X t (length t)) then 0 else 21
+
+-- 22: the greatest count may stand for more
+abbrev pub greatestRefusal : Words → Word → ℕ
+greatestRefusal X t = if eqb (countAt X t (length t)) mostCounted then 22 else 0
+
 -- build: T is to be written
 abbrev pub buildRefusal : List ℕ → List ℕ → ℕ
 buildRefusal T lent = if tooShort T lent then 7 else 0
@@ -85,3 +93,14 @@ firstRefusal X tb t ss cs buffer =
 abbrev pub nextRefusal : Words → List ℕ → Word → List ℕ → List ℕ → List ℕ → ℕ → ℕ
 nextRefusal X tb t ss cs buffer k =
     listRefusal X tb t ss cs andThen givenRefusal X t buffer k andThen fitRefusal (nextReading X t (take k buffer)) buffer
+
+-- jump and place, before they look at a number or a reading
+abbrev pub countedRefusal : Words → List ℕ → Word → List ℕ → List ℕ → ℕ
+countedRefusal X tb t ss cs = listRefusal X tb t ss cs andThen greatestRefusal X t
+
+abbrev pub jumpRefusal : Words → List ℕ → Word → List ℕ → List ℕ → List ℕ → ℕ → ℕ
+jumpRefusal X tb t ss cs buffer n =
+    countedRefusal X tb t ss cs andThen numberRefusal X t n andThen fitRefusal (getElem? (readings X t) n) buffer
+
+abbrev pub placeRefusal : Words → List ℕ → Word → List ℕ → List ℕ → List ℕ → ℕ → ℕ
+placeRefusal X tb t ss cs buffer k = countedRefusal X tb t ss cs andThen givenRefusal X t buffer k

@@ -27,7 +27,7 @@ pub enum ScanAnswer {
     },
 }
 
-// The number of words written; or a refusal.
+// The number of words written, by first or by jump; or a refusal.
 pub enum FirstAnswer {
     Words { words: u16 },
     Refused { number: u16, place: u16 },
@@ -37,6 +37,12 @@ pub enum FirstAnswer {
 pub enum NextAnswer {
     Words { words: u16 },
     End,
+    Refused { number: u16, place: u16 },
+}
+
+// The number of the given reading; or a refusal.
+pub enum PlaceAnswer {
+    At { n: u64 },
     Refused { number: u16, place: u16 },
 }
 

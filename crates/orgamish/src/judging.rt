@@ -1,13 +1,14 @@
-// The tests that the calls share, in order: 18, dictionary, 7, 8, 9, 10, 11.
+// The tests that the calls share, in order: 18, dictionary, 7, 8, 9, 10, 11, 22.
 ghost use mathlib.Core.Path.{_≡_};
 ghost use Rattle.records.specs.Letters.{mapped};
 ghost use Rattle.tree.specs.Forms.{tableIn};
 ghost use Rattle.orgamish.specs.Under.{wordsUnder};
-ghost use Rattle.orgamish.specs.Order.{tableRefusal, scanRefusal, listRefusal};
+ghost use Rattle.orgamish.specs.Order.{tableRefusal, scanRefusal, listRefusal, countedRefusal};
 ghost use Rattle.orgamish.specs.Judging.{verdict};
 use crate::maps::check_words;
 use automaton::Judged;
 use automaton::judge_table;
+use columns::MOST_COUNTED;
 use columns::are_columns;
 use records::Dictionary;
 use records::LONGEST_TEXT;
@@ -101,6 +102,31 @@ pub fn judge_list(
                 number: 11,
                 place: 0,
             }
+        }
+    }
+}
+
+// .. 22: the greatest count may stand for more.
+pub fn judge_count(
+    map: &[u8],
+    dict: &[u8],
+    table: &[u16],
+    text: &[u8],
+    states: &[u16],
+    counts: &[u64],
+) -> Verdict
+    ensures { λ r. ⌜ r ≡ verdict (λ X. countedRefusal X (now (table .entry)) (mapped (now (map .entry)) (now (text .entry))) (now (states .entry)) (now (counts .entry))) (wordsUnder (now (map .entry)) (now (dict .entry))) ⌝ }
+{
+    match judge_list(map, dict, table, text, states, counts) {
+        Verdict::Refused { number, place } => Verdict::Refused { number, place },
+        Verdict::Passed => {
+            if counts[text.len()] == MOST_COUNTED {
+                return Verdict::Refused {
+                    number: 22,
+                    place: 0,
+                };
+            }
+            Verdict::Passed
         }
     }
 }

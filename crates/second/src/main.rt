@@ -33,13 +33,21 @@
 //   count column likewise; the verdict (1 accepted, 0 not), farthest (the greatest length of a prefix
 //   of the text that is also a prefix of some concatenation of words), the count at the end, probes;
 //   for each reading, in the order of listing and 40 at most, the number of its words and its word
-//   numbers left to right; at last the number of readings so listed.
+//   numbers left to right; the number of readings so listed;
+// - not refused, at last what jump (the reading of a number) and place (the number of a reading)
+//   tell. Of every reading, in the order of listing and all of them: the number of its words and its
+//   word numbers left to right, as jump to its number writes them; then its number, from 0, as place
+//   tells it. Of the number that is the count at the end, one past the last, or 0 for a text without
+//   readings: 21 and 0, jump's refusal and its place. Of the word sequence of no words: its number 0
+//   if the text is empty, else 13 and 0, place's refusal and its place. Of the last reading without
+//   its last word: 13 and 0 likewise; nothing where there is no reading, or it has no words.
 //
 // After each case c with c % 100 = 99 a line is printed: `cases`, c + 1, h, with one space between
 // fields. So there are 40 lines.
 mod automaton;
 mod family;
 mod letters;
+mod readings;
 mod scan;
 mod strings;
 mod sum;
@@ -53,30 +61,22 @@ use family::random_records;
 use family::random_text;
 use family::rnd;
 use letters::mapped;
-use scan::Listing;
+use readings::mixed_listed;
+use readings::mixed_numbered;
 use scan::counts_of;
-use scan::list_readings;
 use scan::mixed_counts;
 use scan::mixed_scan;
 use scan::mixed_states;
 use strings::Parts;
-use strings::no_bytes;
 use sum::mixed;
 
-// The sum with what the text's scan and listing give.
+// The sum with what the text's scan and readings give.
 fn mixed_text(h: u64, letters: &[u8; 64], words: Parts, text: &[u8; 64], len: usize) -> u64 {
     let counts = counts_of(letters, words, text, len);
-    let sum = mixed_scan(
-        mixed_counts(h, counts, len),
-        letters,
-        words,
-        text,
-        len,
-        counts,
-    );
-    let none = Listing { sum, listed: 0 };
-    let all = list_readings(letters, words, text, len, no_bytes(), none);
-    mixed(all.sum, all.listed)
+    let h1 = mixed_counts(h, counts, len);
+    let h2 = mixed_scan(h1, letters, words, text, len, counts);
+    let h3 = mixed_listed(h2, letters, words, text, len);
+    mixed_numbered(h3, letters, words, text, len)
 }
 
 fn mixed_refusal(h: u64, number: usize, place: usize) -> u64 {

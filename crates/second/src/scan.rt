@@ -1,23 +1,14 @@
-// The columns of a text, its counts and probes, and its readings.
-use super::strings::Bytes;
+// The columns of a text, its counts and probes.
 use super::strings::Part;
 use super::strings::Parts;
 use super::strings::byte_at;
 use super::strings::end_of;
 use super::strings::ends;
-use super::strings::find;
 use super::strings::how_many_end;
 use super::strings::longest_before;
 use super::strings::part_at;
-use super::strings::with_byte;
 use super::sum::mixed;
 use super::sum::plus;
-
-// The checksum, and how many readings went into it.
-pub struct Listing {
-    pub sum: u64,
-    pub listed: u64,
-}
 
 // The count at each position.
 pub struct Counts {
@@ -186,62 +177,4 @@ pub fn mixed_scan(
     let h2 = mixed(h1, farthest(letters, words, text, len, counts) as u64);
     let h3 = mixed(h2, count);
     mixed(h3, probes(letters, words, text, len))
-}
-
-fn as_number(b: u8) -> u64 {
-    b as u64
-}
-
-fn number_at(numbers: Bytes, k: usize) -> u64 {
-    if k < 64 { as_number(numbers.at[k]) } else { 0 }
-}
-
-// The sum with the number of words of a reading and its word numbers, which `last_first` has from
-// the last to the first.
-fn mixed_reading(h: u64, last_first: Bytes) -> u64 {
-    let len = last_first.len;
-    let mut sum = mixed(h, len as u64);
-    let mut k = len;
-    while 0 < k {
-        k -= 1;
-        sum = mixed(sum, number_at(last_first, k));
-    }
-    sum
-}
-
-// The listing with one reading more, up to the 40th.
-fn with_reading(listing: Listing, last_first: Bytes) -> Listing {
-    let listed = listing.listed;
-    if 40 <= listed {
-        return listing;
-    }
-    Listing {
-        sum: mixed_reading(listing.sum, last_first),
-        listed: listed + 1,
-    }
-}
-
-// Lists the readings of the text's first `end` letters, each with the words `after` it, which are
-// kept from the last to the first. The last word begins at `start`, so the longest comes first.
-// Numbers of words are below 64, and 65,535 is none.
-pub fn list_readings(
-    letters: &[u8; 64],
-    words: Parts,
-    text: &[u8; 64],
-    end: usize,
-    after: Bytes,
-    listing: Listing,
-) -> Listing {
-    if end == 0 {
-        return with_reading(listing, after);
-    }
-    let mut longer = listing;
-    for start in 0..end {
-        let w = find(letters, words, text, start, end - start);
-        if w < 256 {
-            let with_last = with_byte(after, w as u8);
-            longer = list_readings(letters, words, text, start, with_last, longer);
-        }
-    }
-    longer
 }

@@ -1,4 +1,5 @@
 // First and next: the buffer's room, the end of the list, and refusals.
+use super::lines::all_marked;
 use super::lines::print;
 use super::lines::print_kept;
 use super::lines::print_number;
@@ -8,11 +9,11 @@ use super::lines::same_numbers;
 use super::plain::build;
 use super::plain::first;
 use super::plain::next;
-use super::plain::scan;
+use super::plain::prepare;
 use orgamish::FirstAnswer;
 use orgamish::NextAnswer;
 
-fn size(n: u16) -> usize {
+pub fn size(n: u16) -> usize {
     n as usize
 }
 
@@ -22,14 +23,14 @@ fn print_reading(reading: &[u16], words: u16) {
     print(b"\n");
 }
 
-// What first told and wrote. `before` is a copy of the buffer.
-pub fn first_told_line(name: &[u8], told: FirstAnswer, reading: &[u16], before: &[u16]) {
+// What first or jump told and wrote. Where a refusal is expected, all entries of the buffer were 7.
+pub fn written_line(name: &[u8], told: FirstAnswer, reading: &[u16]) {
     print(name);
     match told {
         FirstAnswer::Words { words } => print_reading(reading, words),
         FirstAnswer::Refused { number, place } => {
             print_refusal(number, place);
-            print_kept(same_numbers(reading, before));
+            print_kept(all_marked(reading));
         }
     }
 }
@@ -42,10 +43,9 @@ fn first_line(
     states: &[u16],
     counts: &[u64],
     reading: &mut [u16],
-    before: &[u16],
 ) {
     let told = first(dict, table, text, states, counts, reading);
-    first_told_line(name, told, reading, before);
+    written_line(name, told, reading);
 }
 
 // What next told and wrote. `before` is a copy of the buffer.
@@ -83,10 +83,7 @@ pub fn print_reading_room(dict: &[u8]) {
     let mut counts = [7u64; 7];
     let mut room_2 = [7u16; 2];
     let mut room_3 = [7u16; 3];
-    let before_2 = room_2;
-    let before_3 = room_3;
-    build(dict, &mut table);
-    scan(dict, &table, b"aaaaab", &mut states, &mut counts);
+    prepare(dict, b"aaaaab", &mut table, &mut states, &mut counts);
     first_line(
         b"first-room-2",
         dict,
@@ -95,7 +92,6 @@ pub fn print_reading_room(dict: &[u8]) {
         &states,
         &counts,
         &mut room_2,
-        &before_2,
     );
     first_line(
         b"first-room-3",
@@ -105,7 +101,6 @@ pub fn print_reading_room(dict: &[u8]) {
         &states,
         &counts,
         &mut room_3,
-        &before_3,
     );
 }
 
@@ -114,8 +109,7 @@ fn next_of_aaa(name: &[u8], dict: &[u8], reading: &mut [u16], before: &[u16], gi
     let mut table = [7u16; 24];
     let mut states = [7u16; 4];
     let mut counts = [7u64; 4];
-    build(dict, &mut table);
-    scan(dict, &table, b"aaa", &mut states, &mut counts);
+    prepare(dict, b"aaa", &mut table, &mut states, &mut counts);
     next_line(
         name,
         dict,
@@ -135,8 +129,7 @@ pub fn print_list(dict: &[u8]) {
     let mut states = [7u16; 4];
     let mut counts = [7u64; 4];
     let mut reading = [7u16; 2];
-    build(dict, &mut table);
-    scan(dict, &table, b"aaa", &mut states, &mut counts);
+    prepare(dict, b"aaa", &mut table, &mut states, &mut counts);
     first_line(
         b"list-first",
         dict,
@@ -145,7 +138,6 @@ pub fn print_list(dict: &[u8]) {
         &states,
         &counts,
         &mut reading,
-        &[7u16, 7],
     );
     next_of_aaa(b"list-next", dict, &mut reading, &[0u16, 1], 2);
 }
@@ -174,7 +166,6 @@ pub fn print_unscanned(dict: &[u8]) {
         &states,
         &counts,
         &mut reading,
-        &[7u16, 7],
     );
     next_line(
         b"next-columns",
@@ -195,8 +186,7 @@ pub fn print_no_reading(dict: &[u8]) {
     let mut counts = [7u64; 2];
     let mut reading = [7u16; 2];
     let mut given = [0u16; 2];
-    build(dict, &mut table);
-    scan(dict, &table, b"b", &mut states, &mut counts);
+    prepare(dict, b"b", &mut table, &mut states, &mut counts);
     first_line(
         b"first-no-reading",
         dict,
@@ -205,7 +195,6 @@ pub fn print_no_reading(dict: &[u8]) {
         &states,
         &counts,
         &mut reading,
-        &[7u16, 7],
     );
     next_of_aaa(b"next-no-reading", dict, &mut given, &[0u16, 0], 2);
     next_of_aaa(b"next-given-3-of-2", dict, &mut given, &[0u16, 0], 3);

@@ -3,9 +3,10 @@ use super::books::checked_line;
 use super::books::text_line;
 use super::builds::told_line;
 use super::lines::print;
-use super::lists::first_told_line;
 use super::lists::next_told_line;
+use super::lists::written_line;
 use super::moves::rows_line;
+use super::numbers::jump_and_place_lines;
 use super::scans::scanned_line;
 use orgamish::block;
 use orgamish::build;
@@ -49,7 +50,7 @@ fn first_line(name: &[u8], map: &[u8], dict: &[u8]) {
     let table = [7u16; 8];
     let mut reading = [7u16; 1];
     let told = first(map, dict, &table, b"aa", &[7u16], &[7u64], &mut reading);
-    first_told_line(name, told, &reading, &[7u16]);
+    written_line(name, told, &reading);
 }
 
 fn next_line(name: &[u8], map: &[u8], dict: &[u8]) {
@@ -57,6 +58,11 @@ fn next_line(name: &[u8], map: &[u8], dict: &[u8]) {
     let mut reading = [7u16; 1];
     let told = next(map, dict, &table, b"aa", &[7u16], &[7u64], &mut reading, 2);
     next_told_line(name, told, &reading, &[7u16]);
+}
+
+fn number_lines(map: &[u8], dict: &[u8]) {
+    let table = [7u16; 8];
+    jump_and_place_lines(b" jump", map, dict, &table, b"aa", &[7u16], &[7u64]);
 }
 
 // The calls on a dictionary that is refused for a repeated word, all lent memory too short.
@@ -67,6 +73,7 @@ fn print_calls_on(map: &[u8], twice: &[u8]) {
     scan_line(b" scan", map, twice);
     first_line(b" first", map, twice);
     next_line(b" next", map, twice);
+    number_lines(map, twice);
     checked_line(b" book", check_book(map, twice));
 }
 
@@ -148,6 +155,18 @@ pub fn print_joined_list() {
     next_of_aba(b"join-end", &map, &mut reading, &[0u16, 0, 0], 3);
 }
 
+// Jump and place, for the words a and aa and the text aba.
+pub fn print_joined_number() {
+    let map = joining();
+    let words = b"WD\x01aWD\x02aa";
+    let mut table = [7u16; 24];
+    let mut states = [7u16; 4];
+    let mut counts = [7u64; 4];
+    build(&map, words, &mut table);
+    scan(&map, words, &table, b"aba", &mut states, &mut counts);
+    jump_and_place_lines(b"join-jump", &map, words, &table, b"aba", &states, &counts);
+}
+
 // First, for the word a and the text ab, with the columns that the scan under a map leaves. The
 // table is the same under both maps.
 fn first_of_ab(name: &[u8], map: &[u8], scan_map: &[u8]) {
@@ -159,7 +178,7 @@ fn first_of_ab(name: &[u8], map: &[u8], scan_map: &[u8]) {
     build(map, word, &mut table);
     scan(scan_map, word, &table, b"ab", &mut states, &mut counts);
     let told = first(map, word, &table, b"ab", &states, &counts, &mut reading);
-    first_told_line(name, told, &reading, &[7u16, 7]);
+    written_line(name, told, &reading);
 }
 
 pub fn print_joined_first() {

@@ -1,5 +1,5 @@
 -- `orgamish::lists::first`: the tests, then the first reading.
-use mathlib.Core.Path.{_≡_, sym, ap, _∙_}
+use mathlib.Core.Path.{_≡_, sym, _∙_}
 use mathlib.Core.Option.{Option}
 use mathlib.Core.List.{List, head?}
 use Prim.Native.Nat.{ℕ}
@@ -14,15 +14,15 @@ use Rattle.records.specs.Letters.{mapped}
 use Rattle.records.specs.Run.{Run}
 use Rattle.columns.proofs.Entry.{mapped-size}
 use Rattle.listing.specs.Positions.{Whole}
-use Rattle.listing.specs.Answers.{Answers, answer}
+use Rattle.listing.specs.Answers.{Answers}
 use Rattle.listing.specs.declared.listed.Listed.{Listed}
 use Rattle.orgamish.specs.Under.{wordsUnder}
 use Rattle.orgamish.specs.Order.{_andThen_, listRefusal, unreadRefusal, fitRefusal}
 use Rattle.orgamish.specs.Calls.{toldBy, lengthOf, listed, tells, leaves}
 use Rattle.orgamish.proofs.Verdicts.{Passes, passes, passed-allowed, refused-before}
 use Rattle.orgamish.proofs.Cleared.{scanned, short-text}
-use Rattle.orgamish.proofs.Called.{Came, came-tells, came-leaves, tells-refused, leaves-refused, then-comes}
-use Rattle.orgamish.proofs.Listings.{numberBy, valuesBy, first-number, listing-told, listing-left, answer-words, first-fits}
+use Rattle.orgamish.proofs.Called.{tells-refused, leaves-refused}
+use Rattle.orgamish.proofs.Listings.{numberBy, valuesBy, first-number, answer-told, answer-left, answer-words, first-fits}
 use Rattle.orgamish.proofs.lists.first.Statement.{statement}
 use Rattle.orgamish.proofs.lists.first.Tie as tie
 
@@ -81,37 +81,21 @@ whole c =
 abbrev asked : tie.After-first → tie.After-enum-told
 asked c = c .before .before
 
-came : (c : tie.After-enum-told) → let s = begun (judged c) in
-    Came (test s) (run s) (found c .X) (numberBy 12 (answer (chosen s (found c .X)) (buffer s)))
-came c =
-    let s = begun (judged c) in
-    let X = found c .X in
-    record {
-      end = found c .end;
-      is = found c .is;
-      comes = then-comes (columns s X) (rest s X) (found c .clear) (first-number (chosen s X) (buffer s));
-    }
-
--- by what the listing told
-told : (c : tie.After-first) (r : Listed) → let s = begun (judged (asked c)) in
-    r ≡ answer (chosen s (found (asked c) .X)) (buffer s) → toldBy (numberBy 12 r) (valuesBy r) ≡ tells (test s) (values s) (run s)
-told c r e =
-    let k = asked c in
-    let s = begun (judged k) in
-    ap (λ (q : Listed). toldBy (numberBy 12 q) (valuesBy q)) e
-    ∙ listing-told 12 (chosen s (found k .X)) (buffer s)
-    ∙ came-tells (came k) (values s)
-
 answers : (c : tie.After-first) → let s = begun (judged (asked c)) in
     Answers (chosen s (found (asked c) .X)) (buffer s) (c .first .last .1 .1 .1 .1 .0) (c .first .result)
 answers c = c .first .ensures _ _ (whole (asked c))
 
-kept : (c : tie.After-first) → let s = begun (judged (asked c)) in
-    c .first .last .1 .1 .1 .1 .0 ≡ leaves (test s) (after s) (buffer s) (run s)
-kept c =
+-- by what the listing told
+outcome : (c : tie.After-first) {r : Listed} → r ≡ c .first .result → let s = begun (judged (asked c)) in
+    (toldBy (numberBy 12 r) (valuesBy r) ≡ tells (test s) (values s) (run s))
+    × (c .first .last .1 .1 .1 .1 .0 ≡ leaves (test s) (after s) (buffer s) (run s))
+outcome c e =
     let k = asked c in
     let s = begun (judged k) in
-    answers c .buffer ∙ listing-left 12 (chosen s (found k .X)) (buffer s) ∙ came-leaves (came k) (after s) (buffer s)
+    let n = first-number (chosen s (found k .X)) (buffer s) in (
+      answer-told (columns s) (rest s) (chosen s) (buffer s) (found k) 12 n (answers c) e,
+      answer-left (columns s) (rest s) (chosen s) (buffer s) (found k) 12 n (answers c),
+    )
 
 judge-list-requires : tie.Need-judge-list-requires
 judge-list-requires c κs = search needs
@@ -161,24 +145,21 @@ same-length c = search needs
 
 returns-2 : tie.Need-returns-2
 returns-2 c =
-    let d = c .before .before .before .before in
-    (told d _ (sym (c .enum-told2 .given .1) ∙ answers d .answers), kept d)
+    outcome (c .before .before .before .before) (sym (c .enum-told2 .given .1))
 
 same-length-2 : tie.Need-same-length-2
 same-length-2 c = search needs
 
 returns-3 : tie.Need-returns-3
 returns-3 c =
-    let d = c .before .before .before .before in
-    (told d _ (sym (c .enum-told3 .given .1) ∙ answers d .answers), kept d)
+    outcome (c .before .before .before .before) (sym (c .enum-told3 .given .1))
 
 same-length-3 : tie.Need-same-length-3
 same-length-3 c = search needs
 
 returns-4 : tie.Need-returns-4
 returns-4 c =
-    let d = c .before .before .before .before .before in
-    (told d _ (sym (c .before .words .given .1) ∙ answers d .answers), kept d)
+    outcome (c .before .before .before .before .before) (sym (c .before .words .given .1))
 
 pub first-spec : {M : Type 1} → statement M
 first-spec =

@@ -17,7 +17,7 @@ use Rattle.records.specs.Letters.{mapped}
 use Rattle.records.specs.Run.{Run}
 use Rattle.columns.proofs.Entry.{mapped-size}
 use Rattle.listing.specs.Positions.{Stated, Whole, Giving}
-use Rattle.listing.specs.Answers.{Answers, answer}
+use Rattle.listing.specs.Answers.{Answers}
 use Rattle.listing.specs.declared.listed.Listed.{Listed}
 use Rattle.orgamish.specs.Under.{wordsUnder}
 use Rattle.orgamish.specs.Order.{_andThen_, listRefusal, isGiven, givenRefusal, fitRefusal}
@@ -25,7 +25,7 @@ use Rattle.orgamish.specs.Calls.{toldBy, lengthOf, listed, tells, leaves
 use Rattle.orgamish.proofs.Verdicts.{Passes, passes, passed-allowed, refused-before}
 use Rattle.orgamish.proofs.Cleared.{scanned, short-text}
 use Rattle.orgamish.proofs.Called.{Came, came-tells, came-leaves, tells-refused, leaves-refused, then-comes}
-use Rattle.orgamish.proofs.Listings.{numberBy, valuesBy, next-number, listing-told, listing-left, answer-words, next-fits, given-reads}
+use Rattle.orgamish.proofs.Listings.{numberBy, valuesBy, next-number, answer-told, answer-left, answer-words, next-fits, given-reads}
 use Rattle.orgamish.proofs.lists.next.Statement.{statement}
 use Rattle.orgamish.proofs.lists.next.Tie as tie
 
@@ -126,34 +126,22 @@ passedBy c = c .before .before
 abbrev asked : tie.After-next → tie.After-enum-told
 asked c = looked (passedBy c .before)
 
-comes : (c : tie.After-next) → let s = begun (judged (asked c)) in
-    Came (test s) (run s) (found (asked c) .X) (numberBy 0 (answer (chosen s (found (asked c) .X)) (buffer s)))
-comes c =
-    let k = asked c in
-    let s = begun (judged k) in
-    let X = found k .X in
-    came k (by-given s X (is (passedBy c)) ∙ next-number (chosen s X) (buffer s))
-
--- by what the listing told
-told : (c : tie.After-next) (r : Listed) → let s = begun (judged (asked c)) in
-    r ≡ answer (chosen s (found (asked c) .X)) (buffer s) → toldBy (numberBy 0 r) (valuesBy r) ≡ tells (test s) (values s) (run s)
-told c r e =
-    let k = asked c in
-    let s = begun (judged k) in
-    ap (λ (q : Listed). toldBy (numberBy 0 q) (valuesBy q)) e
-    ∙ listing-told 0 (chosen s (found k .X)) (buffer s)
-    ∙ came-tells (comes c) (values s)
-
 answers : (c : tie.After-next) → let s = begun (judged (asked c)) in
     Answers (chosen s (found (asked c) .X)) (buffer s) (c .next .last .1 .1 .1 .1 .0) (c .next .result)
 answers c = c .next .ensures _ _ (giving (passedBy c))
 
-kept : (c : tie.After-next) → let s = begun (judged (asked c)) in
-    c .next .last .1 .1 .1 .1 .0 ≡ leaves (test s) (after s) (buffer s) (run s)
-kept c =
+-- by what the listing told
+outcome : (c : tie.After-next) {r : Listed} → r ≡ c .next .result → let s = begun (judged (asked c)) in
+    (toldBy (numberBy 0 r) (valuesBy r) ≡ tells (test s) (values s) (run s))
+    × (c .next .last .1 .1 .1 .1 .0 ≡ leaves (test s) (after s) (buffer s) (run s))
+outcome c e =
     let k = asked c in
     let s = begun (judged k) in
-    answers c .buffer ∙ listing-left 0 (chosen s (found k .X)) (buffer s) ∙ came-leaves (comes c) (after s) (buffer s)
+    let X = found k .X in
+    let n = by-given s X (is (passedBy c)) ∙ next-number (chosen s X) (buffer s) in (
+      answer-told (columns s) (rest s) (chosen s) (buffer s) (found k) 0 n (answers c) e,
+      answer-left (columns s) (rest s) (chosen s) (buffer s) (found k) 0 n (answers c),
+    )
 
 judge-list-requires : tie.Need-judge-list-requires
 judge-list-requires c κs = search needs
@@ -223,24 +211,21 @@ same-length-2 c = search needs
 
 returns-3 : tie.Need-returns-3
 returns-3 c =
-    let d = c .before .before .before .before in
-    (told d _ (sym (c .enum-told2 .given .1) ∙ answers d .answers), kept d)
+    outcome (c .before .before .before .before) (sym (c .enum-told2 .given .1))
 
 same-length-3 : tie.Need-same-length-3
 same-length-3 c = search needs
 
 returns-4 : tie.Need-returns-4
 returns-4 c =
-    let d = c .before .before .before .before in
-    (told d _ (sym (c .enum-told3 .given .1) ∙ answers d .answers), kept d)
+    outcome (c .before .before .before .before) (sym (c .enum-told3 .given .1))
 
 same-length-4 : tie.Need-same-length-4
 same-length-4 c = search needs
 
 returns-5 : tie.Need-returns-5
 returns-5 c =
-    let d = c .before .before .before .before .before in
-    (told d _ (sym (c .before .words .given .1) ∙ answers d .answers), kept d)
+    outcome (c .before .before .before .before .before) (sym (c .before .words .given .1))
 
 pub next-spec : {M : Type 1} → statement M
 next-spec =

@@ -5,14 +5,14 @@ use borrow.Author.Needs.{needs}
 use native.Mathlib.Omega.{arith}
 use borrow.Fn.Kinds.{In}
 use borrow.Fn.PlainCycle.{Measures, is, falls, and}
-use Rattle.second.proofs.scan.list_readings.Reads as own
-use Rattle.second.proofs.scan.list_readings.Kinds as kinds
-use Rattle.second.proofs.scan.+list_readings.Lts-list_readings as lts
-use Rattle.second.proofs.scan.with_reading.Reads as with-reading-reads
+use Rattle.second.proofs.readings.list_readings.Reads as own
+use Rattle.second.proofs.readings.list_readings.Kinds as kinds
+use Rattle.second.proofs.readings.+list_readings.Lts-list_readings as lts
+use Rattle.second.proofs.readings.with_reading.Reads as with-reading-reads
 use Rattle.second.proofs.strings.find.Reads as find-reads
 use Rattle.second.proofs.strings.with_byte.Reads as with-byte-reads
-use Rattle.second.proofs.scan.+list_readings.{statement}
-use Rattle.second.proofs.scan.+list_readings.Tie.{close}
+use Rattle.second.proofs.readings.+list_readings.{statement}
+use Rattle.second.proofs.readings.+list_readings.Tie.{close}
 
 abbrev μ : Measures 2 kinds.ps ℕ
 μ κs a = a .1 .1 .1 .0

@@ -1,15 +1,15 @@
--- `many::calls::mixed_counts` is safe and ends. Nothing has to hold from turn to turn. Assumes nothing.
+-- `many::mixing::mixed_numbers` is safe and ends. Nothing has to hold from turn to turn. Assumes nothing.
 use Prim.Native.Nat.{_-_}
 use native.Mathlib.Omega.{arith}
 use borrow.Author.Needs.{needs}
-use Rattle.many.proofs.calls.mixed_counts.Statement.{statement}
-use Rattle.many.proofs.calls.mixed_counts.Tie as tie
+use Rattle.many.proofs.mixing.mixed_numbers.Statement.{statement}
+use Rattle.many.proofs.mixing.mixed_numbers.Tie as tie
 
 abbrev Inv-loop : tie.InvT-loop
-Inv-loop h counts count end sum₀ i₀ sum i = Unit {0}
+Inv-loop h numbers count end sum₀ i₀ sum i = Unit {0}
 
 abbrev μ-loop : tie.MeasureT-loop
-μ-loop h counts count end sum₀ i₀ sum i = end - i
+μ-loop h numbers count end sum₀ i₀ sum i = end - i
 
 at-most-requires : tie.Need-at-most-requires Inv-loop μ-loop
 at-most-requires c κs = tt
@@ -17,11 +17,14 @@ at-most-requires c κs = tt
 loop-holds : tie.Need-loop-holds Inv-loop μ-loop
 loop-holds c = tt
 
-mul-mixed : tie.Need-mul-mixed Inv-loop μ-loop
-mul-mixed c = search needs
+mul-wide : tie.Need-mul-wide Inv-loop μ-loop
+mul-wide c = search needs
 
-shared-slice-read-mixed : tie.Need-shared-slice-read-mixed Inv-loop μ-loop
-shared-slice-read-mixed c = search needs
+shared-slice-read-wide : tie.Need-shared-slice-read-wide Inv-loop μ-loop
+shared-slice-read-wide c = search needs
+
+wide-requires : tie.Need-wide-requires Inv-loop μ-loop
+wide-requires c κs = tt
 
 mixed-requires : tie.Need-mixed-requires Inv-loop μ-loop
 mixed-requires c κs = tt
@@ -38,16 +41,17 @@ loop-again c = tt
 returns : tie.Need-returns Inv-loop μ-loop
 returns c = tt
 
-pub mixed-counts-spec : {M : Type 1} → statement M
-mixed-counts-spec =
+pub mixed-numbers-spec : {M : Type 1} → statement M
+mixed-numbers-spec =
     tie.close
     (tie.spec
     Inv-loop
     μ-loop
     at-most-requires
     loop-holds
-    mul-mixed
-    shared-slice-read-mixed
+    mul-wide
+    shared-slice-read-wide
+    wide-requires
     mixed-requires
     add-i
     loop-less

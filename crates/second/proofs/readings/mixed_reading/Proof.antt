@@ -1,7 +1,7 @@
--- `second::scan::mixed_reading` is safe and ends. Nothing has to hold from turn to turn. Assumes nothing.
+-- `second::readings::mixed_reading` is safe and ends. Nothing has to hold from turn to turn. Assumes nothing.
 use native.Mathlib.Omega.{arith}
-use Rattle.second.proofs.scan.mixed_reading.Statement.{statement}
-use Rattle.second.proofs.scan.mixed_reading.Tie as tie
+use Rattle.second.proofs.readings.mixed_reading.Statement.{statement}
+use Rattle.second.proofs.readings.mixed_reading.Tie as tie
 
 abbrev Inv-loop : tie.InvT-loop
 Inv-loop h last-first len sum₀ k₀ sum k = Unit {0}
