@@ -20,7 +20,7 @@ use Rattle.listing.specs.Positions.{IsWord}
 use Rattle.listing.proofs.Steps.{word-size}
 use Rattle.listing.proofs.Search.{sought-none, sought-some}
 use Rattle.listing.proofs.Backwards.{Back, drop-all, drop-last, back-all, back-end, back-stops, back-on}
-use Rattle.numbering.specs.Numbers.{Together, Counted, Exactly, Behind}
+use Rattle.numbering.specs.Numbers.{Together, Counted, Exactly, AheadOf}
 use Rattle.numbering.proofs.Stretches.{together-all, together-then, exact-before}
 
 -- the words before entry j have to read the first i letters; the readings that end with those from entry j on stand from n on
@@ -61,7 +61,7 @@ module _ {X : Words} {t : Word} {tb ss cs l : List ℕ} {m k : ℕ} (ξ : Exactl
     pub sum-left : j ≡ 0 → (i ≡ 0 → ⊥) → find (readings X t) (take k l) ≡ none
     sum-left z f = none-found ξ (take k l) (sym (ne-eqb i 0 f) ∙ back-end (σ .back) z)
 
-    module _ {w state number : ℕ} (f : j ≡ 0 → ⊥) (e : w ≡ getD l (j - 1) 0) (β : Behind X t i w state number) where
+    module _ {w state number : ℕ} (f : j ≡ 0 → ⊥) (e : w ≡ getD l (j - 1) 0) (β : AheadOf X t i w state number) where
       pub sum-stops : state ≡ absent → find (readings X t) (take k l) ≡ none
       sum-stops q =
           none-found ξ (take k l) (back-stops (σ .back) room f e (sought-none (chain X (take i t)) (β .found) (ξ .whole .scanned .table) q))

@@ -14,7 +14,7 @@ use Rattle.tree.specs.Tree.{IsTable}
 use Rattle.listing.specs.Positions.{wordsAt, sought, IsWord, StateOf, Ending, ScannedAt}
 use Rattle.listing.proofs.Steps.{no-words, word-number, word-next, ending-on, placed, chain-there, ending-there}
 use Rattle.listing.proofs.Search as search
-use Rattle.numbering.specs.Numbers.{Exact, Together, Numbered, LastOf, Behind}
+use Rattle.numbering.specs.Numbers.{Exact, Together, Numbered, LastOf, AheadOf}
 use Rattle.numbering.proofs.Stretches.{Passing, exact-before, exact-count, passing-none, passing-end, passing-word, passing-on}
 
 -- the walk stands at v, and p readings end with the words passed
@@ -96,7 +96,7 @@ pub find-first : {X : Words} {t : Word} {tb ss cs : List ℕ} {i v : ℕ} (w : �
 find-first w α e = record { walk = walk-first α e; same = ap (sought w) (sym (chain-there (placed α) e)) }
 
 module _ {X : Words} {t : Word} {tb cs : List ℕ} {i w v number : ℕ} (φ : Finding X t tb cs i w v number) where
-  pub find-end : v ≡ absent → Behind X t i w v number
+  pub find-end : v ≡ absent → AheadOf X t i w v number
   find-end e = record { found = found; together = λ m. absurd (search.sought-none (chain X (take i t)) found table e m) }
     where
       table : IsTable X tb
@@ -106,7 +106,7 @@ module _ {X : Words} {t : Word} {tb cs : List ℕ} {i w v number : ℕ} (φ : Fi
       found = rw (φ .same, no-words table e) e
 
   module _ {m k : ℕ} (ω : IsWord X v m) (e : k ≡ fieldAt tb v wordField) where
-    pub find-here : k ≡ w → Behind X t i w v number
+    pub find-here : k ≡ w → AheadOf X t i w v number
     find-here f =
         let q : m ≡ w = sym (word-number (φ .walk .ending .walking .table) ω e) ∙ f in
         record {

@@ -45,7 +45,7 @@ pub record LastOf (X : Words) (t : Word) (i n state number : ℕ) : Type 0 where
   pub reading : getD (readingsTo X t i) n [] ≡ snoc (getD (readingsTo X t (i - size X word)) number []) word
 
 -- `state` is that of word w, if it ends at position i, or none, and the readings that end with w stand from `number` on
-pub record Behind (X : Words) (t : Word) (i w state number : ℕ) : Type 0 where
+pub record AheadOf (X : Words) (t : Word) (i w state number : ℕ) : Type 0 where
   pub found : StateOf X (sought w (chain X (take i t))) state
   pub together : List·Memᴰ w (chain X (take i t)) → Together X t (i - size X w) i (w ∷ []) number
 

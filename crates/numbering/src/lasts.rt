@@ -5,7 +5,7 @@ ghost use Prim.Native.Nat.{ℕ, _-_};
 ghost use Rattle.meaning.specs.Words.{Word, Words, size};
 ghost use Rattle.meaning.specs.Readings.{countAt};
 ghost use Rattle.listing.specs.Positions.{IsWord, Ending};
-ghost use Rattle.numbering.specs.Numbers.{Counted, Numbered, LastOf, Behind};
+ghost use Rattle.numbering.specs.Numbers.{Counted, Numbered, LastOf, AheadOf};
 use listing::longest_ending;
 use tree::NONE;
 use tree::depth;
@@ -47,9 +47,9 @@ pub fn last_of(table: &[u16], states: &[u16], counts: &[u64], i: usize, n: u64) 
 
 // The state of word w, if it ends at position i, or none, and how many of the readings of the first i letters end with a longer word.
 // The chain is gone along once, at most r words.
-pub fn behind(table: &[u16], states: &[u16], counts: &[u64], i: usize, w: usize) -> Chosen
+pub fn ahead_of(table: &[u16], states: &[u16], counts: &[u64], i: usize, w: usize) -> Chosen
     requires { ⌜ ((X : Words) × (t : Word) × Counted X t (now table) (now states) (now counts) i) ⌝ }
-    ensures { λ r. ⌜ ((X : Words) (t : Word) → Counted X t (now (table .entry)) (now (states .entry)) (now (counts .entry)) i → Behind X t i w (r .state) (r .number)) ⌝ }
+    ensures { λ r. ⌜ ((X : Words) (t : Word) → Counted X t (now (table .entry)) (now (states .entry)) (now (counts .entry)) i → AheadOf X t i w (r .state) (r .number)) ⌝ }
 {
     let mut state = longest_ending(table, states, i);
     let mut number = 0;

@@ -6,7 +6,7 @@ ghost use Rattle.meaning.specs.Words.{Word, Words, find};
 ghost use Rattle.meaning.specs.Readings.{readings};
 ghost use Rattle.numbering.specs.Numbers.{Exactly};
 ghost use Rattle.numbering.specs.Places.{placed};
-use crate::lasts::behind;
+use crate::lasts::ahead_of;
 use tree::NONE;
 use tree::depth;
 use tree::wide;
@@ -35,7 +35,7 @@ pub fn place(
     let mut i = m;
     let mut j = k;
     while j != 0 {
-        let last = behind(table, states, counts, i, wide(reading[j - 1]));
+        let last = ahead_of(table, states, counts, i, wide(reading[j - 1]));
         if last.state == NONE {
             return Placed::Nowhere;
         }

@@ -7,6 +7,7 @@ use super::lists::next_told_line;
 use super::lists::written_line;
 use super::moves::rows_line;
 use super::numbers::jump_and_place_lines;
+use super::numbers::scan_jump_and_place_lines;
 use super::scans::scanned_line;
 use orgamish::block;
 use orgamish::build;
@@ -157,14 +158,8 @@ pub fn print_joined_list() {
 
 // Jump and place, for the words a and aa and the text aba.
 pub fn print_joined_number() {
-    let map = joining();
     let words = b"WD\x01aWD\x02aa";
-    let mut table = [7u16; 24];
-    let mut states = [7u16; 4];
-    let mut counts = [7u64; 4];
-    build(&map, words, &mut table);
-    scan(&map, words, &table, b"aba", &mut states, &mut counts);
-    jump_and_place_lines(b"join-jump", &map, words, &table, b"aba", &states, &counts);
+    scan_jump_and_place_lines(b"join-jump", &joining(), words, b"aba", b"aba");
 }
 
 // First, for the word a and the text ab, with the columns that the scan under a map leaves. The

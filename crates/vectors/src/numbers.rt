@@ -10,9 +10,11 @@ use super::plain::place;
 use super::plain::prepare;
 use orgamish::FirstAnswer;
 use orgamish::PlaceAnswer;
+use orgamish::build as build_under;
 use orgamish::identity;
 use orgamish::jump as jump_under;
 use orgamish::place as place_under;
+use orgamish::scan as scan_under;
 
 fn placed_line(name: &[u8], told: PlaceAnswer) {
     print(name);
@@ -38,6 +40,23 @@ pub fn jump_and_place_lines(
     written_line(name, told, &reading);
     let placed = place_under(map, dict, table, text, states, counts, &reading, 2);
     placed_line(b" place", placed);
+}
+
+// Jump and place with the columns that the scan of a text leaves, which may be another. There is
+// room for three states and 93 letters.
+pub fn scan_jump_and_place_lines(
+    name: &[u8],
+    map: &[u8],
+    dict: &[u8],
+    scanned: &[u8],
+    text: &[u8],
+) {
+    let mut table = [7u16; 24];
+    let mut states = [7u16; 94];
+    let mut counts = [7u64; 94];
+    build_under(map, dict, &mut table);
+    scan_under(map, dict, &table, scanned, &mut states, &mut counts);
+    jump_and_place_lines(name, map, dict, &table, text, &states, &counts);
 }
 
 // With a table for ten states and columns for 94 letters.
@@ -144,7 +163,13 @@ fn print_entries_past(runs: &[u8]) {
     let mut reading = [7u16; 4];
     jump_line(b"jump-room-4", runs, b"aaa", &mut reading, 1);
     rows_line(b" entries", &reading);
-    place_line(b"place-2-of-4", runs, b"aaa", &[1u16, 0, 0, 0], 2);
+}
+
+// The first entries are a reading: two of four are given, then three of two.
+fn print_entries_given(runs: &[u8]) {
+    let text = b"aaa";
+    place_line(b"place-2-of-4", runs, text, &[1u16, 0, 0, 0], 2);
+    place_line(b"place-3-of-2", runs, text, &[0u16, 1], 3);
 }
 
 // Words that spell too much and too little.
@@ -161,28 +186,12 @@ fn print_no_words(runs: &[u8]) {
     place_line(b"place-word-65535", runs, text, &[65535u16, 0], 2);
 }
 
-// The entries 0 1 are a reading, and more of them are given.
-fn print_given_past(runs: &[u8]) {
-    place_line(b"place-3-of-2", runs, b"aaa", &[0u16, 1], 3);
-}
-
 // The columns of 93 letters a, lent with a text of another last letter: 11 comes before 22.
 fn print_other_columns(runs: &[u8]) {
-    let mut table = [7u16; 24];
-    let mut states = [7u16; 94];
-    let mut counts = [7u64; 94];
-    let mut text = [97u8; 93];
-    prepare(runs, &text, &mut table, &mut states, &mut counts);
+    let scanned = [97u8; 93];
+    let mut text = scanned;
     text[92] = 98;
-    jump_and_place_lines(
-        b"jump-columns",
-        &identity(),
-        runs,
-        &table,
-        &text,
-        &states,
-        &counts,
-    );
+    scan_jump_and_place_lines(b"jump-columns", &identity(), runs, &scanned, &text);
 }
 
 pub fn print_numbers_of_readings(set_e: &[u8], runs: &[u8]) {
@@ -197,8 +206,8 @@ pub fn print_numbers_of_readings(set_e: &[u8], runs: &[u8]) {
     print_jump_room(runs);
     print_past_without_room(runs);
     print_entries_past(runs);
+    print_entries_given(runs);
     print_no_places(runs);
     print_no_words(runs);
-    print_given_past(runs);
     print_other_columns(runs);
 }

@@ -12,7 +12,7 @@ use Rattle.listing.specs.Positions.{IsWord}
 use Rattle.listing.proofs.Steps.{word-row}
 use Rattle.listing.proofs.Search.{sought-some}
 use Rattle.listing.proofs.Backwards.{there-fits}
-use Rattle.numbering.specs.Numbers.{Exactly, Behind}
+use Rattle.numbering.specs.Numbers.{Exactly, AheadOf}
 use Rattle.numbering.specs.Places.{placed}
 use Rattle.numbering.proofs.Sums.{Summing, sum-none, sum-counted, sum-found, sum-left, sum-stops, sum-fits, sum-on}
 use Rattle.numbering.proofs.placing.place.Statement.{statement}
@@ -49,8 +49,8 @@ shared-slice-read-wide c =
 wide-requires : tie.Need-wide-requires Inv-loop μ-loop
 wide-requires c κs = search needs
 
-behind-requires : tie.Need-behind-requires Inv-loop μ-loop
-behind-requires c κs =
+ahead-of-requires : tie.Need-ahead-of-requires Inv-loop μ-loop
+ahead-of-requires c κs =
     let turn = c .before .before in
     let (X, t, ξ, room) = start turn .pre in
     (X, t, sum-counted ξ room (turn .before .loop .inv X t ξ))
@@ -59,13 +59,13 @@ abbrev turned : tie.After-struct-known Inv-loop μ-loop → tie.In-loop Inv-loop
 turned c = c .before .before .before .before
 
 -- the word at the last entry, and how many readings come before those that end with it
-behind : (c : tie.After-struct-known Inv-loop μ-loop) (X : Words) (t : Word) → let a = start (turned c) .args in
-    let r = c .before .behind .result in
+ahead : (c : tie.After-struct-known Inv-loop μ-loop) (X : Words) (t : Word) → let a = start (turned c) .args in
+    let r = c .before .ahead-of .result in
     Exactly X t (now (a .table)) (now (a .states)) (now (a .counts)) (a .m)
-    → Behind X t (turned c .before .loop .i) (c .before .before .wide .result) (r .state) (r .number)
-behind c X t ξ =
+    → AheadOf X t (turned c .before .loop .i) (c .before .before .wide .result) (r .state) (r .number)
+ahead c X t ξ =
     let (Y, u, χ, room) = start (turned c) .pre in
-    c .before .behind .ensures X t (sum-counted ξ room (turned c .before .loop .inv X t ξ))
+    c .before .ahead-of .ensures X t (sum-counted ξ room (turned c .before .loop .inv X t ξ))
 
 returns : tie.Need-returns Inv-loop μ-loop
 returns c X t ξ =
@@ -73,7 +73,7 @@ returns c X t ξ =
     let turn = turned d in
     let (Y, u, χ, room) = start turn .pre in
     sym (ap placed (sum-stops ξ room (turn .before .loop .inv X t ξ) (turn .loop-test .taken) (d .before .before .wide .ensures .0)
-    (behind d X t ξ) (c .if1 .taken)))
+    (ahead d X t ξ) (c .if1 .taken)))
 
 abbrev passed : tie.After-struct-known2 Inv-loop μ-loop → tie.After-struct-known Inv-loop μ-loop
 passed c = c .before .before
@@ -85,7 +85,7 @@ add-n c =
     let (X, t, ξ, room) = start turn .pre in
     omega (
       arith,
-      sum-fits ξ room (turn .before .loop .inv X t ξ) (turn .loop-test .taken) (d .before .before .wide .ensures .0) (behind d X t ξ)
+      sum-fits ξ room (turn .before .loop .inv X t ξ) (turn .loop-test .taken) (d .before .before .wide .ensures .0) (ahead d X t ξ)
           (c .before .if1 .left),
     )
 
@@ -94,10 +94,10 @@ there : (c : tie.After-struct-known2 Inv-loop μ-loop) (X : Words) (t : Word) �
     let a = start (turned d) .args in
     let n = d .before .before .wide .result in
     Exactly X t (now (a .table)) (now (a .states)) (now (a .counts)) (a .m)
-    → List·Memᴰ n (chain X (take (turned d .before .loop .i) t)) × IsWord X (d .before .behind .result .state) n
+    → List·Memᴰ n (chain X (take (turned d .before .loop .i) t)) × IsWord X (d .before .ahead-of .result .state) n
 there c X t ξ =
     let d = passed c in
-    sought-some _ (behind d X t ξ .found) (c .before .if1 .left)
+    sought-some _ (ahead d X t ξ .found) (c .before .if1 .left)
 
 depth-requires : tie.Need-depth-requires Inv-loop μ-loop
 depth-requires c κs =
@@ -122,7 +122,7 @@ loop-again c X t ξ =
     let d = passed (c .before) in
     let turn = turned d in
     let (Y, u, χ, room) = start turn .pre in
-    sum-on ξ room (turn .before .loop .inv X t ξ) (turn .loop-test .taken) (d .before .before .wide .ensures .0) (behind d X t ξ)
+    sum-on ξ room (turn .before .loop .inv X t ξ) (turn .loop-test .taken) (d .before .before .wide .ensures .0) (ahead d X t ξ)
     (c .before .before .if1 .left) (c .depth .ensures .is)
 
 returns-2 : tie.Need-returns-2 Inv-loop μ-loop
@@ -148,7 +148,7 @@ place-spec =
     mul-wide
     shared-slice-read-wide
     wide-requires
-    behind-requires
+    ahead-of-requires
     returns
     add-n
     depth-requires

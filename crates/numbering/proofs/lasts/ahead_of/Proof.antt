@@ -1,12 +1,12 @@
--- `numbering::lasts::behind`: at the loop's head the words passed are others, and `number` readings end with them.
+-- `numbering::lasts::ahead_of`: at the loop's head the words passed are others, and `number` readings end with them.
 use native.Mathlib.Omega.{arith}
 use Rattle.meaning.specs.Words.{Word, Words}
 use Rattle.tree.proofs.Chain.{lettersLeft}
 use Rattle.listing.proofs.Steps.{word-row, word-next, walking-word, placed}
 use Rattle.numbering.specs.Numbers.{Counted}
 use Rattle.numbering.proofs.Walks.{Finding, find-first, find-end, find-here, find-fits, find-past}
-use Rattle.numbering.proofs.lasts.behind.Statement.{statement}
-use Rattle.numbering.proofs.lasts.behind.Tie as tie
+use Rattle.numbering.proofs.lasts.ahead_of.Statement.{statement}
+use Rattle.numbering.proofs.lasts.ahead_of.Tie as tie
 
 abbrev Inv-loop : tie.InvT-loop
 Inv-loop table states counts i w state₀ number₀ state number =
@@ -77,8 +77,8 @@ loop-again c X t κ =
 returns-2 : tie.Need-returns-2 Inv-loop μ-loop
 returns-2 c X t κ = find-end (c .before .loop .inv X t κ) (c .loop-test .left)
 
-pub behind-spec : {M : Type 1} → statement M
-behind-spec =
+pub ahead-of-spec : {M : Type 1} → statement M
+ahead-of-spec =
     tie.close
     (tie.spec
     Inv-loop
