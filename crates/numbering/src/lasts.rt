@@ -18,7 +18,7 @@ pub struct Chosen {
     pub number: u64,
 }
 
-// How many of the readings end with the word at `state`: as many as there are before it.
+// How many readings of the first i letters end with the word at `state`: as many as there are before it.
 fn count_before(table: &[u16], counts: &[u64], state: usize, i: usize) -> u64
     requires { ⌜ ((X : Words) × (t : Word) × (n : ℕ) × Ending X t (now table) (now counts) state i × IsWord X state n) ⌝ }
     ensures { λ r. ⌜ ((X : Words) (t : Word) (n : ℕ) → Ending X t (now (table .entry)) (now (counts .entry)) state i → IsWord X state n → r ≡ countAt X t (i - size X n)) ⌝ }
@@ -42,6 +42,7 @@ pub fn last_of(table: &[u16], states: &[u16], counts: &[u64], i: usize, n: u64) 
         number -= count;
         state = link(table, state);
     }
+    // Not reached: reading n ends with some word of the chain.
     Chosen { state, number }
 }
 

@@ -3,12 +3,12 @@ use mathlib.Core.Path.{_≡_, refl, sym, ap, _∙_}
 use mathlib.Core.Logic.{_↔_}
 use mathlib.Core.Bool.{Bool, true}
 use mathlib.Core.Option.{Option, some}
-use mathlib.Core.List.{List, [], _∷_, _++_, head?, append-assoc, List·Memᴰ, List·Memᴰ·head, List·Memᴰ·tail}
+use mathlib.Core.List.{List, [], _∷_, _++_, head?, append-assoc, List·Memᴰ·head, Memᴰ·append-right}
 use Prim.Native.Nat.{ℕ, zero, suc, _+_, _*_, _≤_, _<_}
 use native.Mathlib.Omega.{arith}
 use borrow.Author.Tests.{le-ltb, le-leb}
 use lib.ListN.{length, getD, getElem?, take, drop, length-append, length-drop}
-use lib.Seq.{getD-take, take-append-seam}
+use lib.Seq.{getD-take, getD-append-seam, take-append-seam}
 use Rattle.meaning.specs.Words.{Word, Words, Reading}
 use Rattle.meaning.specs.Automaton.{chain}
 use Rattle.meaning.specs.Table.{width, chainField, table, over}
@@ -33,19 +33,11 @@ use Rattle.orgamish.proofs.Called.{Came, came-tells, came-leaves, then-
 use Rattle.orgamish.proofs.Listings.{reading-short}
 use Rattle.orgamish.proofs.Determined.{flag-once}
 
--- a list around one of its places
-at-split : {A : Type 0} (Q : List A) (x d : A) (L : List A) → getD (Q ++ x ∷ L) (length Q) d ≡ x
-at-split [] x d L = refl
-at-split (q ∷ Q) x d L = at-split Q x d L
-
+-- what stands behind a place of a list
 past-split : {A : Type 0} (Q : List A) (x : A) (L : List A) → getElem? (Q ++ x ∷ L) (suc (length Q)) ≡ head? L
 past-split [] x [] = refl
 past-split [] x (y ∷ L) = refl
 past-split (q ∷ Q) x L = past-split Q x L
-
-in-split : {A : Type 0} (Q : List A) (x : A) (L : List A) → List·Memᴰ x (Q ++ x ∷ L)
-in-split [] x L = List·Memᴰ·head refl
-in-split (q ∷ Q) x L = List·Memᴰ·tail (in-split Q x L)
 
 snoc-split : {A : Type 0} {R : List A} (Q : List A) (x y : A) (L : List A) → R ≡ Q ++ x ∷ y ∷ L → R ≡ (Q ++ x ∷ []) ++ y ∷ L
 snoc-split Q x y L e = e ∙ sym (append-assoc Q (x ∷ []) (y ∷ L))
@@ -60,7 +52,7 @@ next-behind : (X : Words) (t : Word) (Q : List Reading) (ns : Reading) (L : List
     → nextReading X t ns ≡ head? L
 next-behind X t Q ns L e =
     let R = readings X t in
-    ap (nextReading X t) (sym (ap (λ (l : List Reading). getD l (length Q) []) e ∙ at-split Q ns [] L))
+    ap (nextReading X t) (sym (ap (λ (l : List Reading). getD l (length Q) []) e ∙ getD-append-seam Q ns L []))
     ∙ next-at X t (length Q) (omega (arith, ap length e, length-append Q (ns ∷ L)))
     ∙ ap (λ (l : List Reading). getElem? l (suc (length Q))) e
     ∙ past-split Q ns L
@@ -142,7 +134,7 @@ module _ {run : Run} {X : Words} {end : ℕ} (is : run ≡ ran X end) (allowed :
           }
 
       reads : (L Q : List Reading) (ns : Reading) → readings X t ≡ Q ++ ns ∷ L → IsReading X t ns
-      reads L Q ns e = readings-are X words t ns .0 (rw e (in-split Q ns L))
+      reads L Q ns e = readings-are X words t ns .0 (rw e (Memᴰ·append-right Q (List·Memᴰ·head refl)))
 
       short : (L Q : List Reading) (ns : Reading) → readings X t ≡ Q ++ ns ∷ L → length ns ≤ length t
       short L Q ns e = reading-short X words t ns (reads L Q ns e)

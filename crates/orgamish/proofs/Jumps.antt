@@ -213,19 +213,24 @@ module _ {run : Run} {X : Words} {end : ℕ} (is : run ≡ ran X end) (allowed :
           rw (long, jumped) (ρ .words ∙ sym (take-append-seam ns (drop (length ns) b))),
         )
 
-  -- a place that was told: the jump there leaves the reading as it was given
-  pub jump-to-place : (b : List ℕ) (k n : ℕ) → placeTells run tb t ss cs b k ≡ placeTold (place.At n)
-      → (jumpTells run tb t ss cs b n ≡ firstTold (first.Words k)) × (jumpLeaves run tb t ss cs b n ≡ b)
-  jump-to-place b k n e =
+  -- a place that was told: the jump there writes the reading that was given, to any buffer with room for it
+  pub jump-to-place : (b : List ℕ) (k n : ℕ) → placeTells run tb t ss cs b k ≡ placeTold (place.At n) → (c : List ℕ) → k ≤ length c
+      → (jumpTells run tb t ss cs c n ≡ firstTold (first.Words k)) × (jumpLeaves run tb t ss cs c n ≡ over (take k b) c)
+  jump-to-place b k n e c h =
       let (z, v) = tells-answer (λ Y. placeRefusal Y tb t ss cs b k) (λ Y. numberOf (find (readings Y t) (take k b))) is e in
       let clear = none-first (countedRefusal X tb t ss cs) (givenRefusal X t b k) z in
       let given = test-true (isGiven X t b k) 12 (none-second (countedRefusal X tb t ss cs) (givenRefusal X t b k) z) in
       let room = given-reads X t b k given .0 in
       let (below, at) = at-number X t n (take k b) (found (find R (take k b)) v) in
       let long = length-take-le k b room in
-      let (told, left) = jump-call clear b n (take k b) below at (omega (arith, long)) in
-      (told ∙ ap (λ (i : ℕ). answer (1 ∷ i ∷ [])) long, left ∙ over-itself k b room)
+      let (told, left) = jump-call clear c n (take k b) below at (omega (arith, long)) in
+      (told ∙ ap (λ (i : ℕ). answer (1 ∷ i ∷ [])) long, left)
     where
       found : (o : Option ℕ) → numberOf o ≡ n ∷ [] → o ≡ some n
       found none q = let z : _≡_ {A = ℕ} 0 1 = cc in absurd (omega arith)
       found (some m) q = cc
+
+  -- .. and leaves the buffer that it was given in as it was
+  pub jump-back : (b : List ℕ) (k n : ℕ) → placeTells run tb t ss cs b k ≡ placeTold (place.At n) → k ≤ length b
+      → jumpLeaves run tb t ss cs b n ≡ b
+  jump-back b k n e h = jump-to-place b k n e b h .1 ∙ over-itself k b h
