@@ -15,12 +15,12 @@ use Rattle.records.specs.Run.{ran, dictionary}
 use Rattle.records.proofs.Accepted as record-laws
 use Rattle.records.proofs.Stored.{Written, dictionary-written}
 use Rattle.records.proofs.Maps.{reads-under, unlike}
-use Rattle.orgamish.specs.Under.{wordsUnder}
-use Rattle.orgamish.specs.Order.{scanRefusal}
+use Rattle.judging.specs.Under.{wordsUnder}
+use Rattle.judging.specs.Order.{scanRefusal}
 use Rattle.orgamish.specs.Calls.{scanTells}
 use Rattle.orgamish.specs.Answers.{scanTold}
 use Rattle.orgamish.specs.declared.answers.ScanAnswer.the-variants as scan
-use Rattle.orgamish.proofs.Under.{under-ran}
+use Rattle.judging.proofs.Under.{under-ran}
 use Rattle.orgamish.proofs.Demands.{accepts-reading}
 
 -- the words X are these raw words, mapped

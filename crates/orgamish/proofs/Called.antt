@@ -19,11 +19,11 @@ use Rattle.records.specs.Run.{Run, ran, refused}
 use Rattle.records.specs.Told.{Told, refusal, answer}
 use Rattle.automaton.specs.Lending.{tooShort, wrote}
 use Rattle.automaton.specs.declared.lending.Wrote.the-variants as write
-use Rattle.orgamish.specs.Order.{_andThen_}
-use Rattle.orgamish.specs.Judging.{passed, verdict}
+use Rattle.judging.specs.Order.{_andThen_}
+use Rattle.judging.specs.Judging.{passed, verdict}
 use Rattle.orgamish.specs.Calls.{toldBy, leftBy, tells, leaves}
-use Rattle.orgamish.specs.declared.judging.Verdict.the-variants.{Refused}
-use Rattle.orgamish.proofs.Verdicts.{Passes}
+use Rattle.judging.specs.declared.judging.Verdict.the-variants.{Refused}
+use Rattle.judging.proofs.Verdicts.{Passes}
 
 -- the dictionary is that of X, and the tests come to n
 pub record Came (test : Words → ℕ) (run : Run) (X : Words) (n : ℕ) : Type 0 where

@@ -23,12 +23,12 @@ use Rattle.meaning.proofs.Next.{next-at}
 use Rattle.records.specs.Run.{Run, ran}
 use Rattle.records.specs.Told.{Told, answer, refusal}
 use Rattle.columns.specs.Columns.{Scanned}
-use Rattle.orgamish.specs.Order.{_andThen_, scanRefusal, listRefusal, unreadRefusal, givenRefusal, fitRefusal, firstRefusal, nextRefusal}
+use Rattle.judging.specs.Order.{_andThen_, scanRefusal, listRefusal, unreadRefusal, givenRefusal, fitRefusal, firstRefusal, nextRefusal}
 use Rattle.orgamish.specs.Calls.{flag, lengthOf, listed, scanTells, firstTells, firstLeaves, nextTells, nextLeaves}
 use Rattle.orgamish.specs.Answers.{scanTold}
 use Rattle.orgamish.specs.Listings.{Heard, heard, goOn, listingFrom, listing}
 use Rattle.orgamish.specs.declared.answers.ScanAnswer.the-variants as scan
-use Rattle.orgamish.proofs.Cleared.{scanned}
+use Rattle.judging.proofs.Cleared.{scanned}
 use Rattle.orgamish.proofs.Called.{Came, came-tells, came-leaves, then-comes}
 use Rattle.orgamish.proofs.Listings.{reading-short}
 use Rattle.orgamish.proofs.Determined.{flag-once}

@@ -5,7 +5,7 @@ use mathlib.Core.Option.{Option, none, some}
 use mathlib.Core.List.{List, [], _∷_, head?}
 use Prim.Native.Nat.{ℕ, zero, suc, _≤_, _<_}
 use native.Mathlib.Omega.{arith}
-use borrow.Author.Tests.{ltb-true, leb-true, lt-ltb, le-ltb, eq-eqb}
+use borrow.Author.Tests.{ltb-true, leb-true, lt-ltb, le-ltb}
 use lib.Dec.{leb, ltb}
 use lib.ListN.{length, getD, getElem?, take, drop}
 use lib.Seq.{split-at, drop-cons, length-take-le, take-append-seam}
@@ -15,19 +15,19 @@ use Rattle.meaning.specs.Table.{over}
 use Rattle.meaning.specs.Readings.{readings, isNonempty, accepted, countAt}
 use Rattle.meaning.specs.Plain.{Dictionary, Allowed}
 use Rattle.meaning.proofs.Lists.{some-at, head-drop}
-use Rattle.meaning.proofs.Counts.{count-greatest}
 use Rattle.meaning.proofs.Numbers.{number-at, at-number}
 use Rattle.records.specs.Run.{Run, ran}
 use Rattle.records.specs.Told.{Told, answer, refusal}
 use Rattle.numbering.specs.Places.{placed}
 use Rattle.numbering.proofs.Stretches.{exact-count}
-use Rattle.orgamish.specs.Order.{_andThen_, listRefusal, greatestRefusal, countedRefusal, unreadRefusal, numberRefusal, isGiven, givenRefusal, fitRefusal, firstRefusal, jumpRefusal, placeRefusal}
+use Rattle.judging.specs.Order.{_andThen_, listRefusal, countedRefusal, unreadRefusal, numberRefusal, isGiven, givenRefusal, fitRefusal, firstRefusal, jumpRefusal, placeRefusal}
 use Rattle.orgamish.specs.Calls.{toldBy, leftBy, lengthOf, numberOf, listed, firstTells, firstLeaves, nextTells, nextLeaves, jumpTells, jumpLeaves, placeTells}
 use Rattle.orgamish.specs.Answers.{firstTold, placeTold}
 use Rattle.orgamish.specs.Listings.{Outcome, outcome, wordsTold, nextTimes}
 use Rattle.orgamish.specs.declared.answers.FirstAnswer.the-variants as first
 use Rattle.orgamish.specs.declared.answers.PlaceAnswer.the-variants as place
-use Rattle.orgamish.proofs.Cleared.{none-first, none-second, test-true, counted-lists, counted-below, counted-exact}
+use Rattle.judging.proofs.Orders.{greatest-before-number, greatest-before-words}
+use Rattle.judging.proofs.Cleared.{none-first, none-second, test-true, counted-lists, counted-below, counted-exact}
 use Rattle.orgamish.proofs.Called.{Came, came-tells, came-leaves, tells-answer, then-comes}
 use Rattle.orgamish.proofs.Listings.{elem-fits, given-reads}
 use Rattle.orgamish.proofs.Placings.{placedNumber, given-number}
@@ -157,9 +157,10 @@ module _ {run : Run} {X : Words} {end : ℕ} (is : run ≡ ran X end) (allowed :
   pub greatest-refused : listRefusal X tb t ss cs ≡ 0 → mostCounted ≤ length R → (b : List ℕ) (n k : ℕ)
       → (jumpTells run tb t ss cs b n ≡ refusal 22 0) × (placeTells run tb t ss cs b k ≡ refusal 22 0)
   greatest-refused lists h b n k =
-      let greatest = eq-eqb (countAt X t (length t)) mostCounted (count-greatest X t (length t) .1 h) in
-      let jumps : Came (λ Y. jumpRefusal Y tb t ss cs b n) run X 22 = record { end = end; is = is; comes = rw (lists, greatest) refl } in
-      let places : Came (λ Y. placeRefusal Y tb t ss cs b k) run X 22 = record { end = end; is = is; comes = rw (lists, greatest) refl } in (
+      let jumps : Came (λ Y. jumpRefusal Y tb t ss cs b n) run X 22 =
+      record { end = end; is = is; comes = greatest-before-number X tb t ss cs lists h b n } in
+      let places : Came (λ Y. placeRefusal Y tb t ss cs b k) run X 22 =
+      record { end = end; is = is; comes = greatest-before-words X tb t ss cs lists h b k } in (
         sym (came-tells jumps (λ Y. lengthOf (getElem? (readings Y t) n))),
         sym (came-tells places (λ Y. numberOf (find (readings Y t) (take k b)))),
       )

@@ -1,6 +1,3 @@
-pub mod Under
-pub mod Verdicts
-pub mod Cleared
 pub mod Called
 pub mod Listings
 pub mod Placings

@@ -23,9 +23,9 @@ use Rattle.listing.specs.declared.listed.Listed.{Listed}
 use Rattle.listing.specs.declared.listed.Listed.the-variants as list
 use Rattle.numbering.specs.Numbers.{Exact}
 use Rattle.numbering.proofs.Stretches.{exact-count}
-use Rattle.orgamish.specs.Order.{_andThen_, unreadRefusal, isGiven, fitRefusal, numberRefusal}
+use Rattle.judging.specs.Order.{_andThen_, unreadRefusal, isGiven, fitRefusal, numberRefusal}
 use Rattle.orgamish.specs.Calls.{toldBy, leftBy, tells, leaves, lengthOf, listed}
-use Rattle.orgamish.proofs.Verdicts.{Passes}
+use Rattle.judging.proofs.Verdicts.{Passes}
 use Rattle.orgamish.proofs.Called.{Came, came-tells, came-leaves, then-comes}
 
 -- the refusal's number, where having no reading is refused as k

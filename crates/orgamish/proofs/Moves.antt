@@ -11,19 +11,20 @@ use Rattle.meaning.specs.Table.{table, narrowTable, over}
 use Rattle.meaning.proofs.Find.{same-refl}
 use Rattle.records.specs.Run.{Run, ran, refused}
 use Rattle.records.specs.Told.{Told, refusal, answer}
-use Rattle.orgamish.specs.Order.{_andThen_, tableRefusal, buildRefusal, moveRefusal}
+use Rattle.judging.specs.Order.{tableRefusal, buildRefusal, moveRefusal}
 use Rattle.orgamish.specs.Calls.{toldBy, tells, measures, moveTells, moveLeaves, widenTells, widenLeaves, narrowTells, narrowLeaves}
 use Rattle.orgamish.specs.Answers.{buildTold}
 use Rattle.orgamish.specs.declared.answers.BuildAnswer.the-variants.{Built}
-use Rattle.orgamish.proofs.Verdicts.{Passes}
-use Rattle.orgamish.proofs.Cleared.{none-first, begins-with, long-enough}
+use Rattle.judging.proofs.Verdicts.{Passes}
+use Rattle.judging.proofs.Orders.{input-before}
+use Rattle.judging.proofs.Cleared.{none-first, begins-with, long-enough}
 use Rattle.orgamish.proofs.Called.{Came, came-tells, came-leaves, then-comes}
 
 -- an input that is refused is refused so, whatever the destination
 pub input-first : (form other : Words → List ℕ) (run : Run) (input lent : List ℕ) {X : Words} {end n : ℕ} → run ≡ ran X end
     → tableRefusal (other X) input ≡ suc n → moveTells form run lent other input ≡ refusal (suc n) 0
 input-first form other run input lent {X} {end} {n} is e =
-    sym (came-tells (record { end = end; is = is; comes = ap (λ (k : ℕ). k andThen buildRefusal (form X) lent) e }) measures)
+    sym (came-tells (record { end = end; is = is; comes = input-before (other X) (form X) input lent e }) measures)
 
 -- an answer that tells values is no refusal
 answered : (test : Words → ℕ) (values : Words → List ℕ) (run : Run) {v : ℕ} {vs : List ℕ} → tells test values run ≡ answer (v ∷ vs)

@@ -13,9 +13,9 @@ use Rattle.records.specs.Run.{Run}
 use Rattle.numbering.specs.Places.{placed}
 use Rattle.numbering.specs.declared.placing.Placed.{Placed}
 use Rattle.numbering.specs.declared.placing.Placed.the-variants as place
-use Rattle.orgamish.specs.Order.{_andThen_, givenRefusal}
+use Rattle.judging.specs.Order.{_andThen_, givenRefusal}
 use Rattle.orgamish.specs.Calls.{toldBy, tells, numberOf}
-use Rattle.orgamish.proofs.Verdicts.{Passes}
+use Rattle.judging.proofs.Verdicts.{Passes}
 use Rattle.orgamish.proofs.Called.{Came, came-tells, then-comes}
 
 abbrev pub placedNumber : Placed → ℕ

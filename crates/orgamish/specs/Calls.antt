@@ -12,7 +12,7 @@ use Rattle.meaning.specs.Listing.{nextReading}
 use Rattle.records.specs.Run.{Run, ran, refused}
 use Rattle.records.specs.Book.{Opened, opened, shut}
 use Rattle.records.specs.Told.{Told, refusal, answer}
-use Rattle.orgamish.specs.Order.{buildRefusal, moveRefusal, scanRefusal, firstRefusal, nextRefusal, jumpRefusal, placeRefusal}
+use Rattle.judging.specs.Order.{buildRefusal, moveRefusal, scanRefusal, firstRefusal, nextRefusal, jumpRefusal, placeRefusal}
 
 -- a refusal of that number, or the values where it is 0
 abbrev pub toldBy : ℕ → List ℕ → Told

@@ -2,11 +2,11 @@
 ghost use mathlib.Core.Path.{_≡_};
 ghost use Rattle.meaning.specs.Words.{word as textOf};
 ghost use Rattle.records.specs.Book.{textsOf};
-ghost use Rattle.orgamish.specs.Under.{bookUnder};
+ghost use Rattle.judging.specs.Under.{bookUnder};
 ghost use Rattle.orgamish.specs.Calls.{checkTells};
 ghost use Rattle.orgamish.specs.Answers.{bookTold};
 use crate::answers::BookAnswer;
-use crate::maps::is_map;
+use judging::is_map;
 use records::Book;
 use records::block as block_text;
 use records::check_book as check_records;

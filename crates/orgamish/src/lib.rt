@@ -1,9 +1,7 @@
 // The public calls: each takes every input, ends, and is decided by its contract.
 mod answers;
 mod books;
-mod judging;
 mod lists;
-mod maps;
 mod numbers;
 mod scans;
 mod tables;

@@ -1,13 +1,13 @@
 // Jump and place: a reading by its number in the list that first and next go through, from 0, and the number of a reading.
 ghost use mathlib.Core.Path.{_≡_};
 ghost use Rattle.records.specs.Letters.{mapped};
-ghost use Rattle.orgamish.specs.Under.{wordsUnder};
+ghost use Rattle.judging.specs.Under.{wordsUnder};
 ghost use Rattle.orgamish.specs.Calls.{jumpTells, jumpLeaves, placeTells};
 ghost use Rattle.orgamish.specs.Answers.{firstTold, placeTold};
 use crate::answers::FirstAnswer;
 use crate::answers::PlaceAnswer;
-use crate::judging::Verdict;
-use crate::judging::judge_count;
+use judging::Verdict;
+use judging::judge_count;
 use listing::Listed;
 use numbering::Placed;
 use numbering::jump as numbered_reading;

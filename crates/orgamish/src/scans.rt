@@ -1,13 +1,13 @@
 // Scan: the columns of a text.
 ghost use mathlib.Core.Path.{_≡_};
 ghost use Rattle.records.specs.Letters.{mapped};
-ghost use Rattle.orgamish.specs.Under.{wordsUnder};
+ghost use Rattle.judging.specs.Under.{wordsUnder};
 ghost use Rattle.orgamish.specs.Calls.{scanTells, scanLeavesStates, scanLeavesCounts};
 ghost use Rattle.orgamish.specs.Answers.{scanTold};
 use crate::answers::ScanAnswer;
-use crate::judging::Verdict;
-use crate::judging::judge_scan;
 use columns::scan as scan_text;
+use judging::Verdict;
+use judging::judge_scan;
 
 // The columns of a text are written to the first entries of lent ones.
 pub fn scan(

@@ -1,15 +1,15 @@
 // Tables: built, and moved from one form to the other.
 ghost use mathlib.Core.Path.{_≡_};
 ghost use Rattle.tree.specs.Forms.{tableIn};
-ghost use Rattle.orgamish.specs.Under.{wordsUnder};
+ghost use Rattle.judging.specs.Under.{wordsUnder};
 ghost use Rattle.orgamish.specs.Calls.{writeTells, writeLeaves, moveTells, moveLeaves, buildTells, buildLeaves, widenTells, widenLeaves, narrowTells, narrowLeaves};
 ghost use Rattle.orgamish.specs.Answers.{buildTold};
 use crate::answers::BuildAnswer;
-use crate::judging::Verdict;
-use crate::judging::judge_rows;
-use crate::maps::check_words;
 use automaton::Wrote;
 use automaton::write_table;
+use judging::Verdict;
+use judging::check_words;
+use judging::judge_rows;
 use records::Dictionary;
 use tree::Form;
 

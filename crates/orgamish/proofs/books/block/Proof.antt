@@ -5,7 +5,7 @@ use borrow.Author.Tests.{not-true, not-false}
 use denote.Ref.{now}
 use Rattle.meaning.specs.Words.{word}
 use Rattle.records.specs.Book.{Opened, textsOf}
-use Rattle.orgamish.proofs.Under.{map-first-book, book-lent}
+use Rattle.judging.proofs.Under.{map-first-book, book-lent}
 use Rattle.orgamish.proofs.books.block.Statement.{statement}
 use Rattle.orgamish.proofs.books.block.Tie as tie
 

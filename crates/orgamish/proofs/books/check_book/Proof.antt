@@ -7,9 +7,9 @@ use denote.Ref.{now}
 use Rattle.records.specs.Book.{Opened, opened, book}
 use Rattle.records.specs.Told.{answer, bookTold}
 use Rattle.records.proofs.Determined.{told-opened, told-shut}
-use Rattle.orgamish.specs.Under.{bookUnder}
+use Rattle.judging.specs.Under.{bookUnder}
 use Rattle.orgamish.specs.Calls.{checkTells}
-use Rattle.orgamish.proofs.Under.{map-first-book, book-lent}
+use Rattle.judging.proofs.Under.{map-first-book, book-lent}
 use Rattle.orgamish.proofs.books.check_book.Statement.{statement}
 use Rattle.orgamish.proofs.books.check_book.Tie as tie
 

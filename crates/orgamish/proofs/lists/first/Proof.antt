@@ -16,11 +16,11 @@ use Rattle.columns.proofs.Entry.{mapped-size}
 use Rattle.listing.specs.Positions.{Whole}
 use Rattle.listing.specs.Answers.{Answers}
 use Rattle.listing.specs.declared.listed.Listed.{Listed}
-use Rattle.orgamish.specs.Under.{wordsUnder}
-use Rattle.orgamish.specs.Order.{_andThen_, listRefusal, unreadRefusal, fitRefusal}
+use Rattle.judging.specs.Under.{wordsUnder}
+use Rattle.judging.specs.Order.{_andThen_, listRefusal, unreadRefusal, fitRefusal}
 use Rattle.orgamish.specs.Calls.{toldBy, lengthOf, listed, tells, leaves}
-use Rattle.orgamish.proofs.Verdicts.{Passes, passes, passed-allowed, refused-before}
-use Rattle.orgamish.proofs.Cleared.{scanned, short-text}
+use Rattle.judging.proofs.Verdicts.{Passes, passes, passed-allowed, refused-before}
+use Rattle.judging.proofs.Cleared.{scanned, short-text}
 use Rattle.orgamish.proofs.Called.{tells-refused, leaves-refused}
 use Rattle.orgamish.proofs.Listings.{numberBy, valuesBy, first-number, answer-told, answer-left, answer-words, first-fits}
 use Rattle.orgamish.proofs.lists.first.Statement.{statement}

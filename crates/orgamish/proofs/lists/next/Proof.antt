@@ -19,11 +19,11 @@ use Rattle.columns.proofs.Entry.{mapped-size}
 use Rattle.listing.specs.Positions.{Stated, Whole, Giving}
 use Rattle.listing.specs.Answers.{Answers}
 use Rattle.listing.specs.declared.listed.Listed.{Listed}
-use Rattle.orgamish.specs.Under.{wordsUnder}
-use Rattle.orgamish.specs.Order.{_andThen_, listRefusal, isGiven, givenRefusal, fitRefusal}
+use Rattle.judging.specs.Under.{wordsUnder}
+use Rattle.judging.specs.Order.{_andThen_, listRefusal, isGiven, givenRefusal, fitRefusal}
 use Rattle.orgamish.specs.Calls.{toldBy, lengthOf, listed, tells, leaves}
-use Rattle.orgamish.proofs.Verdicts.{Passes, passes, passed-allowed, refused-before}
-use Rattle.orgamish.proofs.Cleared.{scanned, short-text}
+use Rattle.judging.proofs.Verdicts.{Passes, passes, passed-allowed, refused-before}
+use Rattle.judging.proofs.Cleared.{scanned, short-text}
 use Rattle.orgamish.proofs.Called.{Came, came-tells, came-leaves, tells-refused, leaves-refused, then-comes}
 use Rattle.orgamish.proofs.Listings.{numberBy, valuesBy, next-number, answer-told, answer-left, answer-words, next-fits, given-reads}
 use Rattle.orgamish.proofs.lists.next.Statement.{statement}

@@ -16,11 +16,11 @@ use Rattle.columns.proofs.Entry.{mapped-size}
 use Rattle.listing.specs.Answers.{Answers}
 use Rattle.listing.specs.declared.listed.Listed.{Listed}
 use Rattle.numbering.specs.Numbers.{Exactly}
-use Rattle.orgamish.specs.Under.{wordsUnder}
-use Rattle.orgamish.specs.Order.{_andThen_, countedRefusal, numberRefusal, fitRefusal}
+use Rattle.judging.specs.Under.{wordsUnder}
+use Rattle.judging.specs.Order.{_andThen_, countedRefusal, numberRefusal, fitRefusal}
 use Rattle.orgamish.specs.Calls.{toldBy, lengthOf, listed, tells, leaves}
-use Rattle.orgamish.proofs.Verdicts.{Passes, passes, passed-allowed, refused-before}
-use Rattle.orgamish.proofs.Cleared.{short-text, counted-lists, exactly}
+use Rattle.judging.proofs.Verdicts.{Passes, passes, passed-allowed, refused-before}
+use Rattle.judging.proofs.Cleared.{short-text, counted-lists, exactly}
 use Rattle.orgamish.proofs.Called.{tells-refused, leaves-refused}
 use Rattle.orgamish.proofs.Listings.{numberBy, valuesBy, jump-number, answer-told, answer-left, answer-words, elem-fits}
 use Rattle.orgamish.proofs.numbers.jump.Statement.{statement}

@@ -14,11 +14,11 @@ use Rattle.records.specs.Run.{Run}
 use Rattle.columns.proofs.Entry.{mapped-size}
 use Rattle.numbering.specs.declared.placing.Placed.{Placed}
 use Rattle.numbering.specs.Numbers.{Exactly}
-use Rattle.orgamish.specs.Under.{wordsUnder}
-use Rattle.orgamish.specs.Order.{_andThen_, countedRefusal, givenRefusal}
+use Rattle.judging.specs.Under.{wordsUnder}
+use Rattle.judging.specs.Order.{_andThen_, countedRefusal, givenRefusal}
 use Rattle.orgamish.specs.Calls.{toldBy, tells, numberOf}
-use Rattle.orgamish.proofs.Verdicts.{Passes, passes, passed-allowed, refused-before}
-use Rattle.orgamish.proofs.Cleared.{exactly}
+use Rattle.judging.proofs.Verdicts.{Passes, passes, passed-allowed, refused-before}
+use Rattle.judging.proofs.Cleared.{exactly}
 use Rattle.orgamish.proofs.Called.{tells-refused}
 use Rattle.orgamish.proofs.Placings.{placedNumber, placedValues, many-told, place-told}
 use Rattle.orgamish.proofs.numbers.place.Statement.{statement}

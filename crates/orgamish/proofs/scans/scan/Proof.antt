@@ -15,11 +15,11 @@ use Rattle.records.specs.Letters.{mapped}
 use Rattle.records.specs.Run.{Run}
 use Rattle.records.specs.Told.{answer}
 use Rattle.columns.specs.Scans.{Room, Scans}
-use Rattle.orgamish.specs.Under.{wordsUnder}
-use Rattle.orgamish.specs.Order.{scanRefusal}
+use Rattle.judging.specs.Under.{wordsUnder}
+use Rattle.judging.specs.Order.{scanRefusal}
 use Rattle.orgamish.specs.Calls.{flag}
-use Rattle.orgamish.proofs.Verdicts.{Passes, passes, passed-allowed}
-use Rattle.orgamish.proofs.Cleared.{room}
+use Rattle.judging.proofs.Verdicts.{Passes, passes, passed-allowed}
+use Rattle.judging.proofs.Cleared.{room}
 use Rattle.orgamish.proofs.Called.{Came, came-tells, came-leaves, tells-refused, leaves-refused, counted-accepted}
 use Rattle.orgamish.proofs.scans.scan.Statement.{statement}
 use Rattle.orgamish.proofs.scans.scan.Tie as tie

@@ -15,10 +15,10 @@ use Rattle.records.proofs.Determined.{RanAs, told-ran, told-refused}
 use Rattle.automaton.specs.Building.{Accepted}
 use Rattle.tree.specs.Forms.{tableIn}
 use Rattle.automaton.specs.Lending.{tooShort}
-use Rattle.orgamish.specs.Under.{wordsUnder}
-use Rattle.orgamish.specs.Order.{buildRefusal}
+use Rattle.judging.specs.Under.{wordsUnder}
+use Rattle.judging.specs.Order.{buildRefusal}
 use Rattle.orgamish.specs.Calls.{tells, leaves, measures}
-use Rattle.orgamish.proofs.Verdicts.{told-accepted}
+use Rattle.judging.proofs.Verdicts.{told-accepted}
 use Rattle.orgamish.proofs.Called.{Came, came-tells, came-leaves, WroteRows, wrote-short, wrote-rows, longest-small}
 use Rattle.orgamish.proofs.tables.build_in.Statement.{statement}
 use Rattle.orgamish.proofs.tables.build_in.Tie as tie

@@ -8,10 +8,10 @@ use Rattle.meaning.specs.Words.{Words}
 use Rattle.meaning.specs.Table.{over}
 use Rattle.records.specs.Run.{Run}
 use Rattle.tree.specs.Forms.{tableIn}
-use Rattle.orgamish.specs.Under.{wordsUnder}
-use Rattle.orgamish.specs.Order.{_andThen_, tableRefusal, buildRefusal}
+use Rattle.judging.specs.Under.{wordsUnder}
+use Rattle.judging.specs.Order.{_andThen_, tableRefusal, buildRefusal}
 use Rattle.orgamish.specs.Calls.{measures}
-use Rattle.orgamish.proofs.Verdicts.{Passes, passes, refused-before}
+use Rattle.judging.proofs.Verdicts.{Passes, passes, refused-before}
 use Rattle.orgamish.proofs.Called.{tells-refused, leaves-refused, then-tells, then-leaves}
 use Rattle.orgamish.proofs.tables.move_in.Statement.{statement}
 use Rattle.orgamish.proofs.tables.move_in.Tie as tie

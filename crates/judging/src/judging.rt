@@ -2,9 +2,9 @@
 ghost use mathlib.Core.Path.{_≡_};
 ghost use Rattle.records.specs.Letters.{mapped};
 ghost use Rattle.tree.specs.Forms.{tableIn};
-ghost use Rattle.orgamish.specs.Under.{wordsUnder};
-ghost use Rattle.orgamish.specs.Order.{tableRefusal, scanRefusal, listRefusal, countedRefusal};
-ghost use Rattle.orgamish.specs.Judging.{verdict};
+ghost use Rattle.judging.specs.Under.{wordsUnder};
+ghost use Rattle.judging.specs.Order.{tableRefusal, scanRefusal, listRefusal, countedRefusal};
+ghost use Rattle.judging.specs.Judging.{verdict};
 use crate::maps::check_words;
 use automaton::Judged;
 use automaton::judge_table;

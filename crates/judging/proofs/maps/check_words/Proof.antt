@@ -1,12 +1,12 @@
--- `orgamish::maps::check_words`: the map's test, then the dictionary's check.
+-- `judging::maps::check_words`: the map's test, then the dictionary's check.
 use mathlib.Core.Path.{sym, ap, _∙_}
 use borrow.Author.Needs.{needs}
 use borrow.Author.Tests.{not-true, not-false}
 use denote.Ref.{now}
 use Rattle.records.specs.Told.{runTells}
-use Rattle.orgamish.proofs.Under.{map-first, words-lent}
-use Rattle.orgamish.proofs.maps.check_words.Statement.{statement}
-use Rattle.orgamish.proofs.maps.check_words.Tie as tie
+use Rattle.judging.proofs.Under.{map-first, words-lent}
+use Rattle.judging.proofs.maps.check_words.Statement.{statement}
+use Rattle.judging.proofs.maps.check_words.Tie as tie
 
 abbrev begun : tie.After-is-map → tie.Start
 begun c = c .before .before .before

@@ -1,4 +1,4 @@
--- `orgamish::judging::judge_scan`: the sizes, where the rows are right.
+-- `judging::judging::judge_scan`: the sizes, where the rows are right.
 use mathlib.Core.Path.{_≡_, sym, _∙_}
 use mathlib.Core.List.{List}
 use Prim.Native.Nat.{ℕ}
@@ -11,12 +11,12 @@ use Rattle.meaning.specs.Table.{table}
 use Rattle.records.specs.Letters.{mapped}
 use Rattle.records.specs.Run.{Run}
 use Rattle.columns.proofs.Entry.{mapped-size}
-use Rattle.orgamish.specs.Under.{wordsUnder}
-use Rattle.orgamish.specs.Order.{tableRefusal, textRefusal, roomRefusal, _andThen_}
-use Rattle.orgamish.specs.Judging.{passed, verdict}
-use Rattle.orgamish.proofs.Verdicts.{passes, refused-before, then-test, long-text, short-states, short-counts, sizes-fit}
-use Rattle.orgamish.proofs.judging.judge_scan.Statement.{statement}
-use Rattle.orgamish.proofs.judging.judge_scan.Tie as tie
+use Rattle.judging.specs.Under.{wordsUnder}
+use Rattle.judging.specs.Order.{tableRefusal, textRefusal, roomRefusal, _andThen_}
+use Rattle.judging.specs.Judging.{passed, verdict}
+use Rattle.judging.proofs.Verdicts.{passes, refused-before, then-test, long-text, short-states, short-counts, sizes-fit}
+use Rattle.judging.proofs.judging.judge_scan.Statement.{statement}
+use Rattle.judging.proofs.judging.judge_scan.Tie as tie
 
 abbrev entry : tie.After-judge-rows → tie.Start
 entry c = c .before .before .before .before .before .before .before

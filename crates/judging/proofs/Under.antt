@@ -13,7 +13,7 @@ use Rattle.records.specs.Run.{Run, ran, refused, dictionary, byteDictionary}
 use Rattle.records.specs.Book.{shut, book, byteBook}
 use Rattle.records.proofs.Bytes.{identity-length, mapped-identity}
 use Rattle.records.proofs.Maps.{identity-dictionary, identity-book}
-use Rattle.orgamish.specs.Under.{isMap, wordsUnder, bookUnder}
+use Rattle.judging.specs.Under.{isMap, wordsUnder, bookUnder}
 
 -- a map that is refused is refused so, whatever the bytes
 pub map-first : (m d : List ℕ) → isMap m ≡ false → wordsUnder m d ≡ refused 18 0

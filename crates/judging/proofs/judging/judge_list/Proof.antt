@@ -1,4 +1,4 @@
--- `orgamish::judging::judge_list`: the columns, where rows and sizes are right.
+-- `judging::judging::judge_list`: the columns, where rows and sizes are right.
 use mathlib.Core.Path.{_≡_, sym, ap, _∙_}
 use mathlib.Core.Bool.{Bool, true, false}
 use mathlib.Core.List.{List}
@@ -10,13 +10,13 @@ use Rattle.meaning.specs.Words.{Word, Words, if_then_else_}
 use Rattle.records.specs.Letters.{mapped}
 use Rattle.records.specs.Run.{Run}
 use Rattle.columns.specs.Scans.{Room, areColumns}
-use Rattle.orgamish.specs.Under.{wordsUnder}
-use Rattle.orgamish.specs.Order.{scanRefusal, columnsRefusal, _andThen_}
-use Rattle.orgamish.specs.Judging.{passed, verdict}
-use Rattle.orgamish.proofs.Verdicts.{Passes, passes, refused-before, then-test, passed-allowed}
-use Rattle.orgamish.proofs.Cleared.{room}
-use Rattle.orgamish.proofs.judging.judge_list.Statement.{statement}
-use Rattle.orgamish.proofs.judging.judge_list.Tie as tie
+use Rattle.judging.specs.Under.{wordsUnder}
+use Rattle.judging.specs.Order.{scanRefusal, columnsRefusal, _andThen_}
+use Rattle.judging.specs.Judging.{passed, verdict}
+use Rattle.judging.proofs.Verdicts.{Passes, passes, refused-before, then-test, passed-allowed}
+use Rattle.judging.proofs.Cleared.{room}
+use Rattle.judging.proofs.judging.judge_list.Statement.{statement}
+use Rattle.judging.proofs.judging.judge_list.Tie as tie
 
 abbrev entry : tie.After-judge-scan → tie.Start
 entry c = c .before .before .before .before .before .before .before

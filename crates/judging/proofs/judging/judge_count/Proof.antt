@@ -1,4 +1,4 @@
--- `orgamish::judging::judge_count`: the count at the end, where table and columns are right.
+-- `judging::judging::judge_count`: the count at the end, where table and columns are right.
 use mathlib.Core.Path.{_≡_, sym, ap, _∙_}
 use mathlib.Core.Bool.{Bool, true, false}
 use Prim.Native.Nat.{ℕ}
@@ -16,13 +16,13 @@ use Rattle.records.specs.Run.{Run}
 use Rattle.columns.proofs.Entry.{mapped-size}
 use Rattle.listing.specs.Positions.{Whole}
 use Rattle.listing.proofs.Told.{whole-inside, whole-count}
-use Rattle.orgamish.specs.Under.{wordsUnder}
-use Rattle.orgamish.specs.Order.{_andThen_, listRefusal, greatestRefusal}
-use Rattle.orgamish.specs.Judging.{passed, verdict}
-use Rattle.orgamish.proofs.Verdicts.{Passes, passes, refused-before, then-test, passed-allowed}
-use Rattle.orgamish.proofs.Cleared.{scanned}
-use Rattle.orgamish.proofs.judging.judge_count.Statement.{statement}
-use Rattle.orgamish.proofs.judging.judge_count.Tie as tie
+use Rattle.judging.specs.Under.{wordsUnder}
+use Rattle.judging.specs.Order.{_andThen_, listRefusal, greatestRefusal}
+use Rattle.judging.specs.Judging.{passed, verdict}
+use Rattle.judging.proofs.Verdicts.{Passes, passes, refused-before, then-test, passed-allowed}
+use Rattle.judging.proofs.Cleared.{scanned}
+use Rattle.judging.proofs.judging.judge_count.Statement.{statement}
+use Rattle.judging.proofs.judging.judge_count.Tie as tie
 
 abbrev entry : tie.After-judge-list → tie.Start
 entry c = c .before .before .before .before .before .before .before

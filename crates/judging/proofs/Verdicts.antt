@@ -14,11 +14,11 @@ use Rattle.records.specs.Run.{Run, ran, refused}
 use Rattle.records.proofs.Accepted.{accepted, allowed}
 use Rattle.records.proofs.Determined.{RanAs}
 use Rattle.automaton.specs.Building.{Accepted}
-use Rattle.orgamish.specs.Under.{wordsUnder}
-use Rattle.orgamish.specs.Order.{_andThen_, textRefusal, roomRefusal}
-use Rattle.orgamish.specs.Judging.{passed, verdict}
-use Rattle.orgamish.specs.declared.judging.Verdict.the-variants.{Passed, Refused}
-use Rattle.orgamish.proofs.Under.{under-ran}
+use Rattle.judging.specs.Under.{wordsUnder}
+use Rattle.judging.specs.Order.{_andThen_, textRefusal, roomRefusal}
+use Rattle.judging.specs.Judging.{passed, verdict}
+use Rattle.judging.specs.declared.judging.Verdict.the-variants.{Passed, Refused}
+use Rattle.judging.proofs.Under.{under-ran}
 
 -- the run that passes
 pub record Passes (test : Words → ℕ) (run : Run) : Type 0 where

@@ -1,7 +1,7 @@
 // The lent letter map: 18 where it hasn't 256 numbers, before all others.
 ghost use mathlib.Core.Path.{_≡_};
 ghost use Rattle.records.specs.Told.{dictionaryTold, runTells};
-ghost use Rattle.orgamish.specs.Under.{isMap, wordsUnder};
+ghost use Rattle.judging.specs.Under.{isMap, wordsUnder};
 use records::Dictionary;
 use records::LETTER_VALUES;
 use records::check_dictionary;

@@ -1,4 +1,4 @@
--- `orgamish::judging::judge_rows`: the dictionary's check, then the rows'.
+-- `judging::judging::judge_rows`: the dictionary's check, then the rows'.
 use mathlib.Core.Path.{_≡_, sym, ap, _∙_}
 use native.Mathlib.Omega.{arith}
 use borrow.Author.Needs.{needs}
@@ -9,12 +9,12 @@ use Rattle.automaton.specs.Building.{Accepted}
 use Rattle.tree.specs.Forms.{tableIn}
 use Rattle.automaton.specs.Lending.{judged}
 use Rattle.automaton.specs.declared.lending.Judged.{Judged}
-use Rattle.orgamish.specs.Under.{wordsUnder}
-use Rattle.orgamish.specs.Order.{rowsNumber, tableRefusal}
-use Rattle.orgamish.specs.Judging.{passed, verdict}
-use Rattle.orgamish.proofs.Verdicts.{told-accepted}
-use Rattle.orgamish.proofs.judging.judge_rows.Statement.{statement}
-use Rattle.orgamish.proofs.judging.judge_rows.Tie as tie
+use Rattle.judging.specs.Under.{wordsUnder}
+use Rattle.judging.specs.Order.{rowsNumber, tableRefusal}
+use Rattle.judging.specs.Judging.{passed, verdict}
+use Rattle.judging.proofs.Verdicts.{told-accepted}
+use Rattle.judging.proofs.judging.judge_rows.Statement.{statement}
+use Rattle.judging.proofs.judging.judge_rows.Tie as tie
 
 abbrev entry : tie.After-check-words → tie.Start
 entry c = c .before .before .before .before

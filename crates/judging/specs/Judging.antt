@@ -2,8 +2,8 @@
 use Prim.Native.Nat.{ℕ, zero, suc}
 use Rattle.meaning.specs.Words.{Words}
 use Rattle.records.specs.Run.{Run, ran, refused}
-use Rattle.orgamish.specs.declared.judging.Verdict.{Verdict}
-use Rattle.orgamish.specs.declared.judging.Verdict.the-variants.{Passed, Refused}
+use Rattle.judging.specs.declared.judging.Verdict.{Verdict}
+use Rattle.judging.specs.declared.judging.Verdict.the-variants.{Passed, Refused}
 
 -- 0 is no refusal
 abbrev pub passed : ℕ → Verdict

@@ -19,7 +19,7 @@ use Rattle.automaton.specs.declared.lending.Judged.the-variants as judge
 use Rattle.columns.specs.Columns.{Columns, Scanned}
 use Rattle.columns.specs.Scans.{Room, areColumns}
 use Rattle.numbering.specs.Numbers.{Exact, Exactly}
-use Rattle.orgamish.specs.Order.{_andThen_, rowsNumber, tableRefusal, textRefusal, roomRefusal, columnsRefusal, scanRefusal, listRefusal, greatestRefusal, countedRefusal}
+use Rattle.judging.specs.Order.{_andThen_, rowsNumber, tableRefusal, textRefusal, roomRefusal, columnsRefusal, scanRefusal, listRefusal, greatestRefusal, countedRefusal}
 
 pub none-first : (m n : ℕ) → m andThen n ≡ 0 → m ≡ 0
 none-first zero n e = refl

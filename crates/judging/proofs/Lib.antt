@@ -1,0 +1,4 @@
+pub mod Under
+pub mod Verdicts
+pub mod Cleared
+pub mod Orders

@@ -1,0 +1,3 @@
+pub mod Under
+pub mod Order
+pub mod Judging
