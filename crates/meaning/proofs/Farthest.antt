@@ -28,7 +28,7 @@ star-word {w = w} Star.empty h = Star.more h Star.empty (sym (append-nil w))
 star-word {w = w} (Star.more {w = v} {u = r} k s e) h = Star.more k (star-word s h) (ap (λ (x : Word). x ++ w) e ∙ append-assoc v r w)
 
 -- where two words u ++ a and w ++ v are alike, u begins w, or it begins with w
-overlap : (u a w v : Word) → u ++ a ≡ w ++ v → Prefix u w ⊎ ((r : Word) × (w ++ r ≡ u) × (r ++ a ≡ v))
+pub overlap : (u a w v : Word) → u ++ a ≡ w ++ v → Prefix u w ⊎ ((r : Word) × (w ++ r ≡ u) × (r ++ a ≡ v))
 overlap [] a w v e = inl (record { after = w; joins = refl })
 overlap (x ∷ u) a [] v e = inr (x ∷ u, refl, e)
 overlap (x ∷ u) a (y ∷ w) v e = go (overlap u a w v (tail-eq-of-cons-eq e))

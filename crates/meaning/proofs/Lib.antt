@@ -14,3 +14,4 @@ pub mod Farthest
 pub mod First
 pub mod Next
 pub mod Numbers
+pub mod Unique

@@ -88,7 +88,7 @@ isReading-front X u ns n r = record {
   joins = append-cancel-right (joined X ns) u (word X n) (sym (joined-snoc X ns n) ∙ r .joins);
 }
 
-isReading-tail : {X : Words} {u : Word} {n : ℕ} {ns : Reading} → IsReading X u (n ∷ ns) → IsReading X (joined X ns) ns
+pub isReading-tail : {X : Words} {u : Word} {n : ℕ} {ns : Reading} → IsReading X u (n ∷ ns) → IsReading X (joined X ns) ns
 isReading-tail r = record { below = λ m k. r .below m (List·Memᴰ·tail k); joins = refl }
 
 pub isReading-last : (X : Words) → Dictionary X → (t : Word) (i : ℕ) → i ≤ length t → (ms : Reading) (n : ℕ)

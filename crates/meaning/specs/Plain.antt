@@ -49,6 +49,10 @@ pub record Prefix (v u : Word) : Type 0 where
   pub after : Word
   pub joins : v ++ after ≡ u
 
+pub record ProperPrefix (v u : Word) : Type 0 where
+  pub prefix : Prefix v u
+  pub proper : v ≢ u
+
 pub record Suffix (v u : Word) : Type 0 where
   pub before : Word
   pub joins : before ++ v ≡ u
@@ -56,6 +60,10 @@ pub record Suffix (v u : Word) : Type 0 where
 pub record ProperSuffix (v u : Word) : Type 0 where
   pub suffix : Suffix v u
   pub proper : v ≢ u
+
+-- no word of X is so to another: a proper prefix of it, or a proper suffix
+abbrev pub NoneIs : (Word → Word → Type 0) → Words → Type 0
+NoneIs So X = (i j : ℕ) → i < length X → j < length X → So (word X i) (word X j) → ⊥
 
 -- Pref(X), with the empty prefix even where X has no word
 pub data PrefixIn (X : Words) (u : Word) : Type 0 where
@@ -86,6 +94,10 @@ pub record Probe (X : Words) (t : Word) (i n : ℕ) : Type 0 where
 pub record IsReading (X : Words) (u : Word) (ns : Reading) : Type 0 where
   pub below : (n : ℕ) → List·Memᴰ n ns → n < length X
   pub joins : joined X ns ≡ u
+
+-- every text has at most one reading
+abbrev pub Unambiguous : Words → Type 0
+Unambiguous X = (u : Word) (ns ms : Reading) → IsReading X u ns → IsReading X u ms → ns ≡ ms
 
 -- from their last words backwards ns and ms agree, up to the words n and m, of which n is longer
 pub record Before (X : Words) (ns ms : Reading) : Type 0 where

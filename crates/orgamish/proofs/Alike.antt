@@ -6,15 +6,15 @@ use mathlib.Core.List.{List, map, List·Memᴰ}
 use Prim.Native.Nat.{ℕ, _<_}
 use lib.ListN.{length}
 use Rattle.meaning.specs.Numbers.{letterValues}
-use Rattle.meaning.specs.Words.{Words, Reading, word}
+use Rattle.meaning.specs.Words.{Word, Words, Reading, word}
 use Rattle.meaning.specs.Readings.{readings}
-use Rattle.meaning.specs.Plain.{Storable, Allowed, IsReading}
+use Rattle.meaning.specs.Plain.{Storable, Allowed, NoneIs, IsReading}
 use Rattle.meaning.proofs.Readings.{readings-are}
-use Rattle.records.specs.Letters.{letter, mapped, Alike, ReadsUnder}
+use Rattle.records.specs.Letters.{letter, mapped, Alike, Under, ReadsUnder}
 use Rattle.records.specs.Run.{ran, dictionary}
 use Rattle.records.proofs.Accepted as record-laws
 use Rattle.records.proofs.Stored.{Written, dictionary-written}
-use Rattle.records.proofs.Maps.{reads-under, unlike}
+use Rattle.records.proofs.Maps.{reads-under, unlike, none-under}
 use Rattle.judging.specs.Under.{wordsUnder}
 use Rattle.judging.specs.Order.{scanRefusal}
 use Rattle.orgamish.specs.Calls.{scanTells}
@@ -30,6 +30,9 @@ module _ (m : List ℕ) (raw : Words) {X : Words} (letters : X ≡ map (mapped m
 
   reads-words : (u : List ℕ) (ns : Reading) → IsReading X (mapped m u) ns ↔ ReadsUnder m raw u ns
   reads-words u ns = rw letters (reads-under m raw u ns)
+
+  none-words : (So : Word → Word → Type 0) → NoneIs So X ↔ NoneIs (Under So m) raw
+  none-words So = rw letters (none-under So m raw)
 
 module _ (m d : List ℕ) (bytes : (x : ℕ) → letter m x < letterValues) {X : Words} {end : ℕ} (is : wordsUnder m d ≡ ran X end) where
   passed : dictionary m d ≡ ran X end
@@ -48,8 +51,12 @@ module _ (m d : List ℕ) (bytes : (x : ℕ) → letter m x < letterValues) {X :
   pub no-two-alike : (i j : ℕ) → i < length W → j < length W → Alike m (word W i) (word W j) → i ≡ j
   no-two-alike = unlike-words m W (written .letters) (allowed-under .storable)
 
-  reads : (u : List ℕ) (ns : Reading) → IsReading X (mapped m u) ns ↔ ReadsUnder m W u ns
+  pub reads : (u : List ℕ) (ns : Reading) → IsReading X (mapped m u) ns ↔ ReadsUnder m W u ns
   reads = reads-words m W (written .letters)
+
+  -- that no word is so to another: of the words, and of their bytes under the map
+  pub none-alike : (So : Word → Word → Type 0) → NoneIs So X ↔ NoneIs (Under So m) W
+  none-alike = none-words m W (written .letters)
 
   -- demand 2: accepted exactly where words, joined, equal the text under the map
   pub accepts-alike : (tb u ss cs : List ℕ) → scanRefusal X tb (mapped m u) ss cs ≡ 0 → (verdict : Bool) (f c p : ℕ)

@@ -39,7 +39,16 @@ module _ {test : Words → ℕ} {run : Run} {X : Words} {n : ℕ} (κ : Came tes
   came-leaves after before =
       ap (λ (k : ℕ). leftBy k (after X) before) (sym (κ .comes)) ∙ ap (leaves test after before) (sym (κ .is))
 
--- an answer that tells values is no refusal
+-- an answer without a refusal's number is none
+pub tells-clear : (test : Words → ℕ) (values : Words → List ℕ) {run : Run} {X : Words} {end : ℕ} → run ≡ ran X end
+    → tells test values run .number ≡ 0 → test X ≡ 0
+tells-clear test values {X = X} is e = go (test X) (ap (λ (r : Run). tells test values r .number) (sym is) ∙ e)
+  where
+    go : (n : ℕ) → toldBy n (values X) .number ≡ 0 → n ≡ 0
+    go zero f = refl
+    go (suc n) f = absurd (omega arith)
+
+-- .. nor is one that tells values
 pub tells-answer : (test : Words → ℕ) (values : Words → List ℕ) {run : Run} {X : Words} {end v : ℕ} {vs : List ℕ} → run ≡ ran X end
     → tells test values run ≡ answer (v ∷ vs) → (test X ≡ 0) × (values X ≡ v ∷ vs)
 tells-answer test values {run} {X} {end} {v} {vs} is e = go (test X) refl (ap (tells test values) (sym is) ∙ e)

@@ -74,20 +74,20 @@ module _ {run : Run} {X : Words} {end : ℕ} (is : run ≡ ran X end) (allowed :
           let came : Came (λ Y. scanRefusal Y tb t ss cs) run X 0 = record { end = end; is = is; comes = clear } in
           ap (λ (a : Told). a .values) (e ∙ sym (came-tells came values))
 
-      verdict : yes ≡ accepted X t
-      verdict = let flags : flag yes ≡ flag (accepted X t) = let q = told in cc in flag-once yes (accepted X t) flags
+      pub tells-accepted : yes ≡ accepted X t
+      tells-accepted = let flags : flag yes ≡ flag (accepted X t) = let q = told in cc in flag-once yes (accepted X t) flags
 
       -- demand 2: accepted exactly where the text is in X*
       pub accepts-star : (yes ≡ true) ↔ Star X t
       accepts-star =
           let star = accepted-is-star X words t in
-          (λ y. star .0 (sym verdict ∙ y), λ s. verdict ∙ star .1 s)
+          (λ y. star .0 (sym tells-accepted ∙ y), λ s. tells-accepted ∙ star .1 s)
 
       -- .. that is, where it has a reading
       pub accepts-reading : (yes ≡ true) ↔ ((ns : Reading) × IsReading X t ns)
       accepts-reading =
           let read = accepted-has-reading X words t in
-          (λ y. read .0 (sym verdict ∙ y), λ r. verdict ∙ read .1 r)
+          (λ y. read .0 (sym tells-accepted ∙ y), λ r. tells-accepted ∙ read .1 r)
 
       -- demand 3: the count is the number of readings, or 2^64 - 1 where there are more
       pub counts-readings : c ≡ capped (length (readings X t))
@@ -122,7 +122,7 @@ module _ {run : Run} {X : Words} {end : ℕ} (is : run ≡ ran X end) (allowed :
         comes = then-comes (listRefusal X tb t ss cs) (unreadRefusal (head? (readings X t)) andThen fitRefusal (head? (readings X t)) b) clear e;
       }
 
-      next-came : (b : List ℕ) (k : ℕ) → k ≤ length b → isReading X t (take k b) ≡ true → fitRefusal (nextReading X t (take k b)) b ≡ 0
+      pub next-came : (b : List ℕ) (k : ℕ) → k ≤ length b → isReading X t (take k b) ≡ true → fitRefusal (nextReading X t (take k b)) b ≡ 0
           → Came (λ Y. nextRefusal Y tb t ss cs b k) run X 0
       next-came b k h r e =
           let given : givenRefusal X t b k ≡ 0 = rw (le-ltb (length b) k h, r) in

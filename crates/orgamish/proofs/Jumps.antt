@@ -34,6 +34,10 @@ use Rattle.orgamish.proofs.Placings.{placedNumber, given-number}
 use Rattle.orgamish.proofs.Moves.{over-itself}
 use Rattle.orgamish.proofs.Demands.{over-long, fits-buffer, first-call, next-call}
 
+pub number-found : {n : ℕ} (o : Option ℕ) → numberOf o ≡ n ∷ [] → o ≡ some n
+number-found none e = let z : _≡_ {A = ℕ} 0 1 = cc in absurd (omega arith)
+number-found (some m) e = cc
+
 -- the words X of an accepted dictionary
 module _ {run : Run} {X : Words} {end : ℕ} (is : run ≡ ran X end) (allowed : Allowed X) (tb : List ℕ) (t : Word) (ss cs : List ℕ) where
   words : Dictionary X
@@ -222,14 +226,10 @@ module _ {run : Run} {X : Words} {end : ℕ} (is : run ≡ ran X end) (allowed :
       let clear = none-first (countedRefusal X tb t ss cs) (givenRefusal X t b k) z in
       let given = test-true (isGiven X t b k) 12 (none-second (countedRefusal X tb t ss cs) (givenRefusal X t b k) z) in
       let room = given-reads X t b k given .0 in
-      let (below, at) = at-number X t n (take k b) (found (find R (take k b)) v) in
+      let (below, at) = at-number X t n (take k b) (number-found (find R (take k b)) v) in
       let long = length-take-le k b room in
       let (told, left) = jump-call clear c n (take k b) below at (omega (arith, long)) in
       (told ∙ ap (λ (i : ℕ). answer (1 ∷ i ∷ [])) long, left)
-    where
-      found : (o : Option ℕ) → numberOf o ≡ n ∷ [] → o ≡ some n
-      found none q = let z : _≡_ {A = ℕ} 0 1 = cc in absurd (omega arith)
-      found (some m) q = cc
 
   -- .. and leaves the buffer that it was given in as it was
   pub jump-back : (b : List ℕ) (k n : ℕ) → placeTells run tb t ss cs b k ≡ placeTold (place.At n) → k ≤ length b

@@ -6,3 +6,5 @@ pub mod Moves
 pub mod Demands
 pub mod Alike
 pub mod Jumps
+pub mod Unique
+pub mod Examples

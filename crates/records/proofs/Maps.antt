@@ -3,15 +3,16 @@
 use mathlib.Core.Path.{_≡_, refl, ap, ap₂, sym, _∙_}
 use mathlib.Core.Logic.{_↔_}
 use mathlib.Core.Bool.{Bool, true, false}
-use mathlib.Core.List.{List, [], _∷_, _++_, map}
+use mathlib.Core.List.{List, [], _∷_, _++_, map, map-append, cons≢nil, head-eq-of-cons-eq, tail-eq-of-cons-eq}
 use Prim.Native.Nat.{ℕ, zero, suc, _+_, _<_}
 use native.Mathlib.Omega.{arith}
-use lib.ListN.{length, drop, length-map, length-take, length-drop}
+use lib.ListN.{length, drop, length-map, length-take, length-drop, List·getD-map}
 use lib.Seq.{getD-take, getD-drop}
 use Rattle.meaning.specs.Numbers.{mostWords, letterValues}
 use Rattle.meaning.specs.Words.{Word as Letters, Words, Reading, snoc, word, joined}
-use Rattle.meaning.specs.Plain.{Storable, IsReading, LettersBelow}
-use Rattle.records.specs.Letters.{letter, mapped, identity, part, Alike, ReadsUnder}
+use Rattle.meaning.specs.Plain.{Storable, Prefix, Suffix, NoneIs, IsReading, LettersBelow}
+use Rattle.meaning.proofs.Unique.{none-map}
+use Rattle.records.specs.Letters.{letter, mapped, identity, part, Alike, Under, ReadsUnder}
 use Rattle.records.specs.Record.{recordAt, wordAt}
 use Rattle.records.specs.Run.{joining, joined as joinedBy, recordAfter, Run, onRecord, runFrom, run, dictionary, byteDictionary}
 use Rattle.records.specs.Book.{book, byteBook}
@@ -69,13 +70,10 @@ module _ (b : List ℕ) (bytes : LettersBelow letterValues b) where
 
 -- words joined, and mapped
 mapped-append : (m u v : List ℕ) → mapped m (u ++ v) ≡ mapped m u ++ mapped m v
-mapped-append m [] v = refl
-mapped-append m (x ∷ u) v = ap (letter m x ∷_) (mapped-append m u v)
+mapped-append m = map-append (letter m)
 
 word-mapped : (m : List ℕ) (W : Words) (n : ℕ) → word (map (mapped m) W) n ≡ mapped m (word W n)
-word-mapped m [] n = refl
-word-mapped m (w ∷ W) zero = refl
-word-mapped m (w ∷ W) (suc n) = word-mapped m W n
+word-mapped m W n = List·getD-map (mapped m) W n []
 
 joined-mapped : (m : List ℕ) (W : Words) (ns : Reading) → joined (map (mapped m) W) ns ≡ mapped m (joined W ns)
 joined-mapped m W [] = refl
@@ -94,3 +92,30 @@ pub unlike : (m : List ℕ) (W : Words) → Storable (map (mapped m) W) → (i j
 unlike m W s i j h k e =
     s .dictionary .distinct i j (omega (arith, length-map W (mapped m))) (omega (arith, length-map W (mapped m)))
     (word-mapped m W i ∙ e ∙ sym (word-mapped m W j))
+
+-- letters of bytes, in two parts: each is the letters of bytes
+mapped-split : (m u l k : List ℕ) → l ++ k ≡ mapped m u → ((v : List ℕ) × (mapped m v ≡ l)) × ((w : List ℕ) × (mapped m w ≡ k))
+mapped-split m u [] k e = (([], refl), (u, sym e))
+mapped-split m [] (a ∷ l) k e = absurd (cons≢nil e)
+mapped-split m (x ∷ u) (a ∷ l) k e =
+    let (p, q) = mapped-split m u l k (tail-eq-of-cons-eq e) in
+    ((x ∷ p .0, ap₂ _∷_ (sym (head-eq-of-cons-eq e)) (p .1)), q)
+
+-- a prefix under the map: some bytes after it make it equal under the map; and so of a suffix
+pub prefix-under : (m v u : List ℕ) → Under Prefix m v u ↔ ((after : List ℕ) × Alike m (v ++ after) u)
+prefix-under m v u = (
+  λ p. let (w, e) = mapped-split m u (mapped m v) (p .after) (p .joins) .1 in
+      (w, mapped-append m v w ∙ ap (mapped m v ++_) e ∙ p .joins),
+  λ (w, e). record { after = mapped m w; joins = sym (mapped-append m v w) ∙ e },
+)
+
+pub suffix-under : (m v u : List ℕ) → Under Suffix m v u ↔ ((before : List ℕ) × Alike m (before ++ v) u)
+suffix-under m v u = (
+  λ s. let (w, e) = mapped-split m u (s .before) (mapped m v) (s .joins) .0 in
+      (w, mapped-append m w v ∙ ap (_++ mapped m v) e ∙ s .joins),
+  λ (w, e). record { before = mapped m w; joins = sym (mapped-append m w v) ∙ e },
+)
+
+-- no word is so to another under the map: of the words' bytes, and of the words
+pub none-under : (So : Letters → Letters → Type 0) (m : List ℕ) (W : Words) → NoneIs So (map (mapped m) W) ↔ NoneIs (Under So m) W
+none-under So m W = none-map So (mapped m) refl W

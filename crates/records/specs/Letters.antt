@@ -18,6 +18,10 @@ mapped m u = map (letter m) u
 abbrev pub Alike : List ℕ → List ℕ → List ℕ → Type 0
 Alike m u v = mapped m u ≡ mapped m v
 
+-- bytes that are so to one another under the map: one a proper prefix of the other, say
+abbrev pub Under : (Word → Word → Type 0) → List ℕ → List ℕ → List ℕ → Type 0
+Under So m v u = So (mapped m v) (mapped m u)
+
 -- ns is a reading of the bytes u, by words whose bytes are W
 pub record ReadsUnder (m : List ℕ) (W : Words) (u : List ℕ) (ns : Reading) : Type 0 where
   pub below : (n : ℕ) → List·Memᴰ n ns → n < length W
