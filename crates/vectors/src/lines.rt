@@ -27,6 +27,13 @@ pub fn print_numbers(numbers: &[u16], count: usize) {
     }
 }
 
+pub fn print_counts(counts: &[u64]) {
+    let len = counts.len();
+    for i in 0..len {
+        print_count(counts[i]);
+    }
+}
+
 pub fn print_refusal(number: u16, place: u16) {
     print(b" refused");
     print_number(number);

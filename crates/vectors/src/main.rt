@@ -2,6 +2,7 @@
 // `refused` with number and place. After the refusal of a call that writes stands whether all lent memory was kept.
 mod books;
 mod builds;
+mod designs;
 mod lines;
 mod lists;
 mod making;
@@ -20,6 +21,8 @@ use builds::print_letters_in_all;
 use builds::print_number_of_words;
 use builds::print_table_room;
 use builds::print_word_lengths;
+use designs::print_designs;
+use designs::print_designs_under;
 use lists::print_list;
 use lists::print_list_end;
 use lists::print_no_reading;
@@ -78,6 +81,8 @@ fn print_vectors(set_e: &[u8], book: &[u8], runs: &[u8]) {
     print_exchanged();
     print_one_letter();
     print_marks_as_bytes();
+    print_designs();
+    print_designs_under();
 }
 
 fn main() {
