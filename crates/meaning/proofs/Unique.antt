@@ -21,7 +21,7 @@ use Rattle.meaning.proofs.Counts.{readings-of-prefix}
 use Rattle.meaning.proofs.Farthest.{overlap}
 use Rattle.meaning.proofs.Next.{next-of-reading}
 
--- the same of words that f changes, and of what it makes of them
+-- that no word is so to another: of what f makes of the words, and of the words
 pub none-map : (So : Word → Word → Type 0) (f : Word → Word) → f [] ≡ [] → (X : Words)
     → NoneIs So (map f X) ↔ NoneIs (λ v u. So (f v) (f u)) X
 none-map So f e X = (
@@ -71,7 +71,8 @@ module _ (X : Words) where
 
     -- .. so of two readings none comes first
     no-order : {t : Word} {ns ms : Reading} → IsReading X t ns → IsReading X t ms → Before X ns ms → ⊥
-    no-order {t} {ns} {ms} p q b = no-shorter (ends p (b .front₁) (b .n) (b .first) refl) (ends q (b .front₂) (b .m) (b .second) same) (b .longer)
+    no-order {t} {ns} {ms} p q b =
+        no-shorter (ends p (b .front₁) (b .n) (b .first) refl) (ends q (b .front₂) (b .m) (b .second) same) (b .longer)
       where
         spell : (f : Reading) (n : ℕ) → joined X (f ++ n ∷ b .rest) ≡ (joined X f ++ word X n) ++ joined X (b .rest)
         spell f n = joined-append X f (n ∷ b .rest) ∙ sym (append-assoc (joined X f) (word X n) (joined X (b .rest)))
@@ -81,13 +82,14 @@ module _ (X : Words) where
             (sym (spell (b .front₂) (b .m)) ∙ ap (joined X) (sym (b .second)) ∙ q .joins
             ∙ sym (p .joins) ∙ ap (joined X) (b .first) ∙ spell (b .front₁) (b .n))
 
-        ends : {ks : Reading} → IsReading X t ks → (f : Reading) (n : ℕ) → ks ≡ f ++ n ∷ b .rest → {u : Word} → joined X f ++ word X n ≡ u → EndsWith X u n
+        ends : {ks : Reading} → IsReading X t ks → (f : Reading) (n : ℕ) → ks ≡ f ++ n ∷ b .rest
+            → {u : Word} → joined X f ++ word X n ≡ u → EndsWith X u n
         ends r f n e j = record {
           below = r .below n (rw e (Memᴰ·append-right f (List·Memᴰ·head refl)));
           suffix = record { before = joined X f; joins = j };
         }
 
-  -- r is at most 1 exactly there
+  -- .. and no chain two words: r is at most 1, exactly there
   pub suffix-free-r : Dictionary X → NoneIs ProperSuffix X ↔ (longestChain X ≤ 1)
   suffix-free-r D = (
     λ free. let (n, l, e) = r-attained X in omega (arith, suffix-free-chain free (word (states X) n)),
@@ -106,7 +108,7 @@ module _ (X : Words) where
   suffix-free-unambiguous D free t ns ms p q =
       ⊎-elim (λ e. e) (λ o. absurd (⊎-elim (no-order free p q) (no-order free q p) o)) (readings-compare X D t ns ms p q)
 
-  -- of two words that begin a text one is a prefix of the other
+  -- no word is a proper prefix of another: no text has two words that begin it, since one would be a prefix of the other
   pub prefix-free-unambiguous : Dictionary X → NoneIs ProperPrefix X → Unambiguous X
   prefix-free-unambiguous D free = unique
     where
@@ -157,7 +159,7 @@ module _ (X : Words) where
         let (k, h, e, next) = next-of-reading X D t ns r in
         next ∙ none-at (readings X t) (suc k) .1 (omega (arith, at-most-one t))
 
--- .. of the words written backwards
+-- what r tells of prefixes: that of the words written backwards
 pub prefix-free-r : (X : Words) → Dictionary (map reverse X) → NoneIs ProperPrefix X ↔ (longestChain (map reverse X) ≤ 1)
 prefix-free-r X D =
     let (f, g) = none-map ProperSuffix reverse refl X in

@@ -69,17 +69,22 @@ module _ (m d : List ℕ) (bytes : (x : ℕ) → letter m x < letterValues) {X :
     pub build-r : buildTold (built.Built w s r) ≡ buildTells (wordsUnder m d) tb → (r ≤ 1) ↔ NoneIs (Under ProperSuffix m) raw
     build-r = told-r (λ Y. buildRefusal (table Y) tb)
 
-    pub widen-r : (nt : List ℕ) → buildTold (built.Built w s r) ≡ widenTells (wordsUnder m d) tb nt → (r ≤ 1) ↔ NoneIs (Under ProperSuffix m) raw
+    pub widen-r : (nt : List ℕ) → buildTold (built.Built w s r) ≡ widenTells (wordsUnder m d) tb nt
+        → (r ≤ 1) ↔ NoneIs (Under ProperSuffix m) raw
     widen-r nt = told-r (λ Y. moveRefusal (narrowTable Y) (table Y) nt tb)
 
-    pub narrow-r : (nt : List ℕ) → buildTold (built.Built w s r) ≡ narrowTells (wordsUnder m d) tb nt → (r ≤ 1) ↔ NoneIs (Under ProperSuffix m) raw
+    pub narrow-r : (nt : List ℕ) → buildTold (built.Built w s r) ≡ narrowTells (wordsUnder m d) tb nt
+        → (r ≤ 1) ↔ NoneIs (Under ProperSuffix m) raw
     narrow-r nt = told-r (λ Y. moveRefusal (table Y) (narrowTable Y) tb nt)
 
   -- one of the two conditions is met
   module _ (free : NoneIs (Under ProperSuffix m) raw ⊎ NoneIs (Under ProperPrefix m) raw) where
     one : Unambiguous X
     one =
-        ⊎-elim (λ f. suffix-free-unambiguous X words (under ProperSuffix .1 f)) (λ f. prefix-free-unambiguous X words (under ProperPrefix .1 f)) free
+        ⊎-elim
+        (λ f. suffix-free-unambiguous X words (under ProperSuffix .1 f))
+        (λ f. prefix-free-unambiguous X words (under ProperPrefix .1 f))
+        free
 
     -- every text has at most one reading
     pub one-reading : (u : List ℕ) (ns ms : Reading) → ReadsUnder m raw u ns → ReadsUnder m raw u ms → ns ≡ ms
@@ -130,7 +135,8 @@ module _ (m d : List ℕ) (bytes : (x : ℕ) → letter m x < letterValues) {X :
             let w : Came (λ Y. scanRefusal Y tb t ss cs) run X 0 = record { end = end; is = is; comes = clear } in
             let inside : i < suc (length t) = omega (arith, length-map u (letter m)) in
             let stands : getD (over (countColumn X t) cs) i 0 ≡ countAt X t i
-            = List·getD-append (countColumn X t) (drop (length (countColumn X t)) cs) 0 i (omega (arith, upTo-length (countAt X t) (suc (length t))))
+            = List·getD-append (countColumn X t) (drop (length (countColumn X t)) cs) 0 i
+            (omega (arith, upTo-length (countAt X t) (suc (length t))))
             ∙ upTo-at (countAt X t) (suc (length t)) i inside in
             omega (arith, count-one i h, stands, ap (λ (l : List ℕ). getD l i 0) (came-leaves w (λ Y. over (countColumn Y t) cs) cs))
 
@@ -155,8 +161,8 @@ module _ (m d : List ℕ) (bytes : (x : ℕ) → letter m x < letterValues) {X :
         jump-past b n h =
             let count = count-at-most-one X words one t (length t) (omega arith) in
             let below : greatestRefusal X t ≡ 0 = rw (ne-eqb (countAt X t (length t)) mostCounted (λ q. omega arith)) in
-            past-refused is allowed tb t ss cs (then-comes (listRefusal X tb t ss cs) (greatestRefusal X t) clear below) b n
-            (omega (arith, at-most-one X words one t))
+            let counted = then-comes (listRefusal X tb t ss cs) (greatestRefusal X t) clear below in
+            past-refused is allowed tb t ss cs counted b n (omega (arith, at-most-one X words one t))
 
       -- whatever next answers that is no refusal is End, and leaves the buffer as it was
       pub next-only-ends : (b : List ℕ) (k : ℕ) (a : NextAnswer) (after : List ℕ)
