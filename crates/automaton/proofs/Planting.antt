@@ -15,8 +15,8 @@ use Rattle.meaning.specs.Plain.{Allowed}
 use Rattle.meaning.proofs.Find.{none-unless, find-some}
 use Rattle.meaning.proofs.States.{extends-length, addAll-extends, states-length, states-snoc, total-append, allowed-bounded, allowed-words}
 use Rattle.meaning.proofs.Children.{childFrom-no}
-use Rattle.records.specs.Letters.{mapped, part}
-use Rattle.records.specs.Record.{recordAt, wordLen}
+use Rattle.letters.specs.Letters.{mapped, part}
+use Rattle.letters.specs.Record.{recordAt, wordLen}
 use Rattle.records.specs.Stored.{place, Holds}
 use Rattle.records.proofs.Accepted.{accepted, word-stands, place-next}
 use Rattle.tree.specs.Layout.{fieldAt, HasRow, newRow}

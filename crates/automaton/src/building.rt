@@ -29,7 +29,7 @@ fn plant(map: &[u8], dict: &[u8], words: usize, table: &mut [u16], index: &mut [
     let mut at = 0;
     while k < words {
         let start = at + 3;
-        let end = start + records::word_len(dict, at);
+        let end = start + letters::word_len(dict, at);
         n = insert_word(map, table, index, n, &dict[start..end], k);
         k += 1;
         at = end;

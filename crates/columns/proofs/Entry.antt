@@ -13,7 +13,7 @@ use Rattle.meaning.proofs.Find.{some-inj}
 use Rattle.meaning.proofs.Chains.{chain-fits}
 use Rattle.meaning.proofs.Counts.{cappedSum, count-suc}
 use Rattle.meaning.proofs.Columns.{column-at, column-long, state-inside, state-fits, state-chain, state-next}
-use Rattle.records.specs.Letters.{letter, mapped}
+use Rattle.letters.specs.Letters.{letter, mapped}
 use Rattle.tree.specs.Filling.{Bordered}
 use Rattle.tree.proofs.Whole.{table-bordered}
 use Rattle.columns.specs.Entries.{Ending, countBefore, Tallied, Reached, IsEntry}

@@ -3,7 +3,7 @@ ghost use mathlib.Core.Path.{_≡_};
 ghost use Prim.Native.Nat.{_<_};
 ghost use lib.ListN.{length};
 ghost use Rattle.meaning.specs.Words.{Words};
-ghost use Rattle.records.specs.Letters.{mapped};
+ghost use Rattle.letters.specs.Letters.{mapped};
 ghost use Rattle.columns.specs.Scans.{Room, holdsAt, areColumns};
 use crate::entries::entry_after;
 use tree::root_index;

@@ -4,7 +4,7 @@ ghost use Prim.Native.Nat.{suc, _+_, _<_};
 ghost use lib.ListN.{length};
 ghost use Rattle.meaning.specs.Words.{Words};
 ghost use Rattle.meaning.specs.Readings.{capped};
-ghost use Rattle.records.specs.Letters.{mapped};
+ghost use Rattle.letters.specs.Letters.{mapped};
 ghost use Rattle.columns.specs.Entries.{LetterAt, Ending, Tallied, Reached, IsEntry};
 use tree::NONE;
 use tree::depth;
@@ -19,7 +19,7 @@ fn letter_at(map: &[u8], text: &[u8], i: usize) -> usize
     requires { ⌜ i < length (now text) ⌝ }
     ensures { λ r. ⌜ LetterAt (mapped (now (map .entry)) (now (text .entry))) i r ⌝ }
 {
-    records::letter(map, text[i]) as usize
+    letters::letter(map, text[i]) as usize
 }
 
 fn add_capped(a: u64, b: u64) -> u64

@@ -1,6 +1,6 @@
 // The scan of a text, which writes its columns.
 ghost use Rattle.meaning.specs.Words.{Words};
-ghost use Rattle.records.specs.Letters.{mapped};
+ghost use Rattle.letters.specs.Letters.{mapped};
 ghost use Rattle.columns.specs.Scans.{Room, Scans};
 use crate::entries::entry_after;
 use crate::reaching::farthest;

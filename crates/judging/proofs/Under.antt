@@ -8,10 +8,10 @@ use borrow.Author.Tests.{eq-eqb}
 use Rattle.meaning.specs.Numbers.{letterValues}
 use Rattle.meaning.specs.Words.{Word, Words}
 use Rattle.meaning.specs.Plain.{LettersBelow}
-use Rattle.records.specs.Letters.{mapped, identity}
+use Rattle.letters.specs.Letters.{mapped, identity}
+use Rattle.letters.proofs.Bytes.{identity-length, mapped-identity}
 use Rattle.records.specs.Run.{Run, ran, refused, dictionary, byteDictionary}
 use Rattle.records.specs.Book.{shut, book, byteBook}
-use Rattle.records.proofs.Bytes.{identity-length, mapped-identity}
 use Rattle.records.proofs.Maps.{identity-dictionary, identity-book}
 use Rattle.judging.specs.Under.{isMap, wordsUnder, bookUnder}
 

@@ -9,7 +9,7 @@ use borrow.Author.Tests.{lt-ltb, le-ltb, le-leb, lt-leb}
 use Rattle.meaning.specs.Numbers.{letterValues, longestText}
 use Rattle.meaning.specs.Words.{Word, Words}
 use Rattle.meaning.specs.Plain.{Allowed}
-use Rattle.records.specs.Letters.{letter}
+use Rattle.letters.specs.Letters.{letter}
 use Rattle.records.specs.Run.{Run, ran, refused}
 use Rattle.records.proofs.Accepted.{accepted, allowed}
 use Rattle.records.proofs.Determined.{RanAs}

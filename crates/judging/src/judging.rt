@@ -1,6 +1,6 @@
 // The tests that the calls share, in order: 18, dictionary, 7, 8, 9, 10, 11, 22.
 ghost use mathlib.Core.Path.{_≡_};
-ghost use Rattle.records.specs.Letters.{mapped};
+ghost use Rattle.letters.specs.Letters.{mapped};
 ghost use Rattle.tree.specs.Forms.{tableIn};
 ghost use Rattle.judging.specs.Under.{wordsUnder};
 ghost use Rattle.judging.specs.Order.{tableRefusal, scanRefusal, listRefusal, countedRefusal};
@@ -10,8 +10,8 @@ use automaton::Judged;
 use automaton::judge_table;
 use columns::MOST_COUNTED;
 use columns::are_columns;
+use letters::LONGEST_TEXT;
 use records::Dictionary;
-use records::LONGEST_TEXT;
 use tree::Form;
 
 // Nothing is refused so far; or a refusal.

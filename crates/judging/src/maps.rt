@@ -2,8 +2,8 @@
 ghost use mathlib.Core.Path.{_≡_};
 ghost use Rattle.records.specs.Told.{dictionaryTold, runTells};
 ghost use Rattle.judging.specs.Under.{isMap, wordsUnder};
+use letters::LETTER_VALUES;
 use records::Dictionary;
-use records::LETTER_VALUES;
 use records::check_dictionary;
 
 pub fn is_map(map: &[u8]) -> bool

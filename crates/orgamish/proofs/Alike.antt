@@ -10,11 +10,11 @@ use Rattle.meaning.specs.Words.{Word, Words, Reading, word}
 use Rattle.meaning.specs.Readings.{readings}
 use Rattle.meaning.specs.Plain.{Storable, Allowed, NoneIs, IsReading}
 use Rattle.meaning.proofs.Readings.{readings-are}
-use Rattle.records.specs.Letters.{letter, mapped, Alike, Under, ReadsUnder}
+use Rattle.letters.specs.Letters.{letter, mapped, Alike, Under, ReadsUnder}
+use Rattle.letters.proofs.Maps.{reads-under, unlike, none-under}
 use Rattle.records.specs.Run.{ran, dictionary}
 use Rattle.records.proofs.Accepted as record-laws
 use Rattle.records.proofs.Stored.{Written, dictionary-written}
-use Rattle.records.proofs.Maps.{reads-under, unlike, none-under}
 use Rattle.judging.specs.Under.{wordsUnder}
 use Rattle.judging.specs.Order.{scanRefusal}
 use Rattle.orgamish.specs.Calls.{scanTells}

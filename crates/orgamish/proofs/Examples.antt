@@ -10,7 +10,7 @@ use Rattle.meaning.specs.Automaton.{longestChain}
 use Rattle.meaning.specs.Readings.{readings}
 use Rattle.meaning.specs.Plain.{Dictionary, ProperPrefix, ProperSuffix, NoneIs}
 use Rattle.meaning.proofs.Unique.{suffix-free-r, prefix-free-r}
-use Rattle.records.specs.Letters.{mapped, identity}
+use Rattle.letters.specs.Letters.{mapped, identity}
 use Rattle.records.specs.Run.{ran, run, dictionary}
 use Rattle.records.specs.Stored.{wordRecords}
 use Rattle.records.proofs.Accepted.{accepted, storable}

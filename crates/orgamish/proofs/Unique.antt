@@ -21,7 +21,7 @@ use Rattle.meaning.proofs.Readings.{isReading-is}
 use Rattle.meaning.proofs.Columns.{upTo-length, upTo-at, column-at}
 use Rattle.meaning.proofs.Numbers.{at-number}
 use Rattle.meaning.proofs.Unique.{suffix-free-r, prefix-free-r, suffix-free-unambiguous, prefix-free-unambiguous, at-most-one, count-at-most-one, none-after}
-use Rattle.records.specs.Letters.{letter, mapped, Under, ReadsUnder}
+use Rattle.letters.specs.Letters.{letter, mapped, Under, ReadsUnder}
 use Rattle.records.specs.Run.{Run, ran}
 use Rattle.records.specs.Told.{Told, answer, refusal}
 use Rattle.columns.specs.Columns.{Scanned}

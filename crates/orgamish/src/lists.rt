@@ -2,7 +2,7 @@
 ghost use mathlib.Core.Path.{_≡_};
 ghost use lib.ListN.{length};
 ghost use Rattle.meaning.specs.Words.{Word, Words};
-ghost use Rattle.records.specs.Letters.{mapped};
+ghost use Rattle.letters.specs.Letters.{mapped};
 ghost use Rattle.listing.specs.Positions.{Stated};
 ghost use Rattle.judging.specs.Under.{wordsUnder};
 ghost use Rattle.judging.specs.Order.{isGiven};

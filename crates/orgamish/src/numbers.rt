@@ -1,6 +1,6 @@
 // Jump and place: a reading by its number in the list that first and next go through, from 0, and the number of a reading.
 ghost use mathlib.Core.Path.{_≡_};
-ghost use Rattle.records.specs.Letters.{mapped};
+ghost use Rattle.letters.specs.Letters.{mapped};
 ghost use Rattle.judging.specs.Under.{wordsUnder};
 ghost use Rattle.orgamish.specs.Calls.{jumpTells, jumpLeaves, placeTells};
 ghost use Rattle.orgamish.specs.Answers.{firstTold, placeTold};

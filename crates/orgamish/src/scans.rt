@@ -1,6 +1,6 @@
 // Scan: the columns of a text.
 ghost use mathlib.Core.Path.{_≡_};
-ghost use Rattle.records.specs.Letters.{mapped};
+ghost use Rattle.letters.specs.Letters.{mapped};
 ghost use Rattle.judging.specs.Under.{wordsUnder};
 ghost use Rattle.orgamish.specs.Calls.{scanTells, scanLeavesStates, scanLeavesCounts};
 ghost use Rattle.orgamish.specs.Answers.{scanTold};

@@ -5,10 +5,10 @@ ghost use Rattle.meaning.specs.Numbers.{mostWords, longestBook};
 use super::lines::print_block_line;
 use super::lines::print_refusal;
 use super::lines::print_totals;
+use letters::BlockRecord;
+use letters::block_at;
 use orgamish::ScanAnswer;
 use orgamish::scan;
-use records::BlockRecord;
-use records::block_at;
 
 // One for each position of the longest text, its start and end included.
 const POSITIONS: usize = 4097;

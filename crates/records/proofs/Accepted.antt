@@ -10,14 +10,15 @@ use Rattle.meaning.specs.Numbers.{letterValues}
 use Rattle.meaning.specs.Plain.{Storable, Allowed, LettersBelow}
 use Rattle.meaning.specs.Words.{Word as Letters, Words, word, total}
 use Rattle.meaning.proofs.Find.{once-distinct}
-use Rattle.records.specs.Letters.{letter, part, mapped}
-use Rattle.records.specs.Record.{recordAt, wordLen, wordAt}
+use Rattle.letters.specs.Letters.{letter, part, mapped}
+use Rattle.letters.specs.Record.{recordAt, wordLen, wordAt}
+use Rattle.letters.specs.declared.record.Record.the-variants.{Word}
+use Rattle.letters.proofs.Bytes.{part-length, mapped-at, mapped-below}
+use Rattle.letters.proofs.Records.{FitsWord, word-fits, word-size}
 use Rattle.records.specs.Run.{ran, run, dictionary, pastWords}
 use Rattle.records.specs.Stored.{Stands, stop, step, place, Holds}
-use Rattle.records.specs.declared.record.Record.the-variants.{Word}
-use Rattle.records.proofs.Bytes.{part-length, mapped-at, mapped-below}
-use Rattle.records.proofs.Records.{FitsWord, word-fits, word-size, past-next}
 use Rattle.records.proofs.Run.{stands-end, Good, Ended, Ends, run-ended}
+use Rattle.records.proofs.Walking.{past-next}
 
 ended : (inBook : Bool) (m b : List ℕ) {X : Words} {at : ℕ} → run inBook (mapped m) b ≡ ran X at → Ended m b inBook X at
 ended inBook m b e = subst (Ends m b inBook) e (run-ended m b inBook)

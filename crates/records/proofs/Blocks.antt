@@ -8,12 +8,12 @@ use lib.ListN.{length, List·getD-eq-default}
 use lib.Seq.{getD-at}
 use Rattle.meaning.specs.Words.{Words, snoc, word}
 use Rattle.meaning.proofs.Lists.{snoc-length}
-use Rattle.records.specs.Record.{blockAt, textAt}
+use Rattle.letters.specs.Record.{blockAt, textAt}
+use Rattle.letters.specs.declared.record.BlockRecord.{BlockRecord}
+use Rattle.letters.specs.declared.record.BlockRecord.the-variants.{End, Text, Bad}
+use Rattle.letters.proofs.Records.{FitsBlock, block-fits}
 use Rattle.records.specs.Book.{Blocks, texts, onBlock, blocksFrom, blocks}
 use Rattle.records.specs.Told.{answer, refusal, blocksTell}
-use Rattle.records.specs.declared.record.BlockRecord.{BlockRecord}
-use Rattle.records.specs.declared.record.BlockRecord.the-variants.{End, Text, Bad}
-use Rattle.records.proofs.Records.{FitsBlock, block-fits}
 
 -- the walk has come to an offset, past n blocks
 pub record Going (b : List ℕ) (start n at : ℕ) : Type 0 where

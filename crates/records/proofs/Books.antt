@@ -8,11 +8,11 @@ use lib.Dec.{ltb}
 use borrow.Author.Tests.{ltb-false}
 use Rattle.meaning.specs.Numbers.{longestBook}
 use Rattle.meaning.specs.Words.{Words}
-use Rattle.records.specs.Letters.{mapped}
+use Rattle.letters.specs.Letters.{mapped}
+use Rattle.letters.proofs.Cases.{picked}
 use Rattle.records.specs.Run.{Run, ran, refused, run, bookWords}
 use Rattle.records.specs.Book.{Blocks, texts, bad, blocks, Opened, opened, shut, withWords, withBlocks, book}
 use Rattle.records.specs.Told.{blocksTell, bookTells}
-use Rattle.records.proofs.Cases.{picked}
 use Rattle.records.proofs.Determined.{RanAs}
 use Rattle.records.proofs.Run.{Good, Ends, run-ended}
 

@@ -5,11 +5,11 @@ use native.Mathlib.Omega.{arith}
 use Prim.Native.Nat.{ℕ}
 use lib.ListN.{length}
 use Rattle.meaning.specs.Words.{Words, total}
+use Rattle.letters.specs.declared.record.BlockRecord.{BlockRecord}
+use Rattle.letters.specs.declared.record.BlockRecord.the-variants as block
 use Rattle.records.specs.Run.{Run, ran, refused}
 use Rattle.records.specs.Book.{Opened, opened, shut}
 use Rattle.records.specs.Told.{Told, refusal, answer, blockTold, dictionaryTold, runTells, bookTold, bookTells}
-use Rattle.records.specs.declared.record.BlockRecord.{BlockRecord}
-use Rattle.records.specs.declared.record.BlockRecord.the-variants as block
 use Rattle.records.specs.declared.dictionary.Dictionary.{Dictionary}
 use Rattle.records.specs.declared.dictionary.Dictionary.the-variants as dictionary
 use Rattle.records.specs.declared.book.Book.{Book}

@@ -8,15 +8,15 @@ use lib.ListN.{length}
 use Rattle.meaning.specs.Numbers.{mostWords}
 use Rattle.meaning.specs.Words.{Words, snoc}
 use Rattle.meaning.proofs.Lists.{snoc-length}
-use Rattle.records.specs.Letters.{mapped}
-use Rattle.records.specs.Record.{wordAt, blockAt, textAt}
+use Rattle.letters.specs.Letters.{mapped}
+use Rattle.letters.specs.Record.{wordAt, blockAt, textAt}
+use Rattle.letters.specs.declared.record.Record.{Record}
+use Rattle.letters.specs.declared.record.Record.the-variants as word
+use Rattle.letters.specs.declared.record.BlockRecord.{BlockRecord}
+use Rattle.letters.specs.declared.record.BlockRecord.the-variants as block
+use Rattle.letters.proofs.Records.{FitsBlock, block-fits}
 use Rattle.records.specs.Run.{recordAfter, Run, onRecord, runFrom, run}
 use Rattle.records.specs.Book.{Blocks, onBlock, blocksFrom, blocks}
-use Rattle.records.specs.declared.record.Record.{Record}
-use Rattle.records.specs.declared.record.Record.the-variants as word
-use Rattle.records.specs.declared.record.BlockRecord.{BlockRecord}
-use Rattle.records.specs.declared.record.BlockRecord.the-variants as block
-use Rattle.records.proofs.Records.{FitsBlock, block-fits}
 use Rattle.records.proofs.Run.{Joins, joins, Good, good-none, good-more}
 
 module _ (inBook : Bool) (m b : List ℕ) (g : ℕ) where

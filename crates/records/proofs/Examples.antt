@@ -11,8 +11,8 @@ use Rattle.meaning.specs.Automaton.{states, longestChain}
 use Rattle.meaning.specs.Table.{childFrom, table}
 use Rattle.meaning.specs.Readings.{readings, accepted, countAt, stateColumn, countColumn, probes, farthest}
 use Rattle.meaning.specs.Listing.{firstReading, nextReading}
-use Rattle.records.specs.Letters.{identity}
-use Rattle.records.specs.Record.{blockMark}
+use Rattle.letters.specs.Letters.{identity}
+use Rattle.letters.specs.Record.{blockMark}
 use Rattle.records.specs.Run.{ran, run, dictionary}
 use Rattle.records.specs.Book.{book, blocks, opened}
 use Rattle.records.specs.Told.{Told, refusal, runTells, bookTells}

@@ -1,6 +1,3 @@
-pub mod Cases
-pub mod Bytes
-pub mod Records
 pub mod Run
 pub mod Standing
 pub mod Walking

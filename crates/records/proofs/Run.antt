@@ -15,14 +15,14 @@ use Rattle.meaning.specs.Words.{Word as Letters, Words, snoc, find, has, word, 
 use Rattle.meaning.proofs.Find.{has-false, find-kept, find-new}
 use Rattle.meaning.proofs.Lists.{snoc-length}
 use Rattle.meaning.proofs.States.{total-append}
-use Rattle.records.specs.Letters.{mapped}
-use Rattle.records.specs.Record.{recordAt, wordAt}
+use Rattle.letters.specs.Letters.{mapped}
+use Rattle.letters.specs.Record.{recordAt, wordAt}
+use Rattle.letters.specs.declared.record.Record.{Record}
+use Rattle.letters.specs.declared.record.Record.the-variants.{End, Block, Word, Bad}
+use Rattle.letters.proofs.Cases.{picked}
+use Rattle.letters.proofs.Records.{FitsWord, word-fits, word-size, word-end}
 use Rattle.records.specs.Run.{joined, recordAfter, Run, ran, refused, onRecord, runFrom, run}
 use Rattle.records.specs.Stored.{Stands, stop, step}
-use Rattle.records.specs.declared.record.Record.{Record}
-use Rattle.records.specs.declared.record.Record.the-variants.{End, Block, Word, Bad}
-use Rattle.records.proofs.Cases.{picked}
-use Rattle.records.proofs.Records.{FitsWord, word-fits, word-size, word-end}
 
 stands-more : {m b : List ℕ} {e p : ℕ} (n : ℕ) {X : Words} → Stands m b e p X → recordAt b e ≡ Word n
     → Stands m b (e + 3 + n) p (snoc X (wordAt (mapped m) b e n))

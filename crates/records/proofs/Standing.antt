@@ -8,10 +8,10 @@ use native.Mathlib.Omega.{arith}
 use lib.ListN.{length}
 use Rattle.meaning.specs.Words.{Word, Words, same, find, later, isSome, has}
 use Rattle.meaning.proofs.Find.{not-same}
-use Rattle.records.specs.Letters.{mapped}
-use Rattle.records.specs.Record.{recordAt, wordLen, wordAt}
+use Rattle.letters.specs.Letters.{mapped}
+use Rattle.letters.specs.Record.{recordAt, wordLen, wordAt}
+use Rattle.letters.proofs.Records.{word-size}
 use Rattle.records.specs.Stored.{Stands, stop, step}
-use Rattle.records.proofs.Records.{word-size}
 use Rattle.records.proofs.Run.{stands-end}
 
 has-later : (o : Option ℕ) → isSome (later o) ≡ isSome o

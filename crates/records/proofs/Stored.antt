@@ -12,13 +12,13 @@ use Rattle.meaning.specs.Plain.{Distinct, Storable}
 use Rattle.meaning.specs.Words.{Word as Letters, Words, snoc, find, has, isSome, word, total}
 use Rattle.meaning.proofs.Find.{none-unless, find-some, find-kept}
 use Rattle.meaning.proofs.States.{total-append}
-use Rattle.records.specs.Letters.{mapped, part}
-use Rattle.records.specs.Record.{recordAt, wordAt}
+use Rattle.letters.specs.Letters.{mapped, part}
+use Rattle.letters.specs.Record.{recordAt, wordAt}
+use Rattle.letters.specs.declared.record.Record.the-variants.{End, Word}
+use Rattle.letters.proofs.Bytes.{part-length}
+use Rattle.letters.proofs.Records.{FitsWord, word-fits, word-record}
 use Rattle.records.specs.Run.{joined, recordAfter, ran, onRecord, runFrom, run, dictionary}
 use Rattle.records.specs.Stored.{Stands, stop, step, wordRecord, wordRecords}
-use Rattle.records.specs.declared.record.Record.the-variants.{End, Word}
-use Rattle.records.proofs.Bytes.{part-length}
-use Rattle.records.proofs.Records.{FitsWord, word-fits, word-record}
 use Rattle.records.proofs.Run.{Good}
 use Rattle.records.proofs.Accepted.{accepted, whole, storable}
 

@@ -2,21 +2,22 @@
 use mathlib.Core.Path.{_≡_, refl, ap, sym, _∙_}
 use mathlib.Core.Bool.{Bool}
 use mathlib.Core.List.{List, [], _∷_}
-use Prim.Native.Nat.{ℕ, suc, _+_, _*_, _-_}
+use Prim.Native.Nat.{ℕ, zero, suc, _+_, _*_, _-_, _<_}
 use native.Mathlib.Omega.{arith}
 use lib.ListN.{length}
+use borrow.Author.Tests.{eq-eqb, ne-eqb}
 use Rattle.meaning.specs.Numbers.{mostWords}
 use Rattle.meaning.specs.Words.{Words, snoc, total}
 use Rattle.meaning.proofs.Lists.{snoc-length}
 use Rattle.meaning.proofs.States.{total-append}
-use Rattle.records.specs.Letters.{mapped}
-use Rattle.records.specs.Record.{wordAt}
-use Rattle.records.specs.Run.{recordAfter, Run, ran, refused, onRecord, runFrom, run}
+use Rattle.letters.specs.Letters.{mapped}
+use Rattle.letters.specs.Record.{recordAt, wordLen, wordAt}
+use Rattle.letters.specs.declared.record.Record.{Record}
+use Rattle.letters.specs.declared.record.Record.the-variants.{Word}
+use Rattle.letters.proofs.Records.{word-size}
+use Rattle.records.specs.Run.{recordAfter, Run, ran, refused, onRecord, runFrom, run, pastWords}
 use Rattle.records.specs.Stored.{Before}
 use Rattle.records.specs.Told.{answer, refusal, runTells}
-use Rattle.records.specs.declared.record.Record.{Record}
-use Rattle.records.specs.declared.record.Record.the-variants.{Word}
-use Rattle.records.proofs.Records.{word-size}
 use Rattle.records.proofs.Run.{stands-end, Joins, joins, Good, good-none, good-more}
 
 -- the walk has come to an offset, past so many words with so many letters
@@ -73,3 +74,13 @@ module _ {inBook : Bool} {m b : List ℕ} {words letters at : ℕ} (w : Walking 
         sum = omega (arith, total-append (w .X) (v ∷ []), word-size m b at n (j .stands), w .sum);
         goes = comes (Word n) e ∙ ap (λ (k : ℕ). runFrom inBook (mapped m) b k (snoc (w .X) v) (at + 3 + n)) fuel;
       }
+
+-- past the record at an offset: nothing where it is no word, else its bytes
+pub past-stop : (b : List ℕ) (k at : ℕ) → 0 < k → wordLen (recordAt b at) ≡ 0 → pastWords b k at ≡ at
+past-stop b zero at h e = refl
+past-stop b (suc k) at h e = rw (eq-eqb _ _ e)
+
+pub past-next : (b : List ℕ) (k at n : ℕ) → 0 < k → n ≡ wordLen (recordAt b at) → (n ≡ 0 → ⊥)
+    → pastWords b k at ≡ pastWords b (k - 1) (at + 3 + n)
+past-next b zero at n h e d = absurd (omega arith)
+past-next b (suc k) at n h e d = let f : suc k - 1 ≡ k = omega arith in rw (f, ← e, ne-eqb _ _ d)

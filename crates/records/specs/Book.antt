@@ -3,10 +3,10 @@ use mathlib.Core.List.{List, []}
 use Prim.Native.Nat.{ℕ, zero, suc, _+_}
 use lib.ListN.{length}
 use Rattle.meaning.specs.Words.{Words, snoc}
-use Rattle.records.specs.Record.{blockAt, textAt}
+use Rattle.letters.specs.Record.{blockAt, textAt}
+use Rattle.letters.specs.declared.record.BlockRecord.{BlockRecord}
+use Rattle.letters.specs.declared.record.BlockRecord.the-variants.{End, Text, Bad}
 use Rattle.records.specs.Run.{Run, ran, refused, bookRun, bookWords}
-use Rattle.records.specs.declared.record.BlockRecord.{BlockRecord}
-use Rattle.records.specs.declared.record.BlockRecord.the-variants.{End, Text, Bad}
 
 -- the blocks' texts; or a refusal's number and the number of blocks before it
 pub data Blocks : Type 0 where

@@ -1,5 +1,3 @@
-pub mod Letters
-pub mod Record
 pub mod Run
 pub mod Book
 pub mod Told

@@ -6,10 +6,10 @@ use lib.ListN.{length}
 use lib.Dec.{leb, ltb, eqb}
 use Rattle.meaning.specs.Numbers.{mostWords, mostLetters, longestBook}
 use Rattle.meaning.specs.Words.{if_then_else_, Word as Letters, Words, snoc, has, total}
-use Rattle.records.specs.Letters.{mapped}
-use Rattle.records.specs.Record.{recordAt, wordAt, wordLen}
-use Rattle.records.specs.declared.record.Record.{Record}
-use Rattle.records.specs.declared.record.Record.the-variants.{End, Block, Word, Bad}
+use Rattle.letters.specs.Letters.{mapped}
+use Rattle.letters.specs.Record.{recordAt, wordAt, wordLen}
+use Rattle.letters.specs.declared.record.Record.{Record}
+use Rattle.letters.specs.declared.record.Record.the-variants.{End, Block, Word, Bad}
 
 -- the word record of n letters at an offset, after the words X: 4, 5, 6. ℓ says what bytes are as letters
 abbrev pub joining : (List ℕ → Letters) → List ℕ → Words → ℕ → ℕ → Record

@@ -5,9 +5,9 @@ use Prim.Native.Nat.{ℕ, _+_, _*_, _≤_}
 use lib.ListN.{length, take}
 use Rattle.meaning.specs.Numbers.{longestWord}
 use Rattle.meaning.specs.Words.{Word, Words, total}
-use Rattle.records.specs.Letters.{mapped}
-use Rattle.records.specs.Record.{wordMark, recordAt, wordAt}
-use Rattle.records.specs.declared.record.Record.the-variants as found
+use Rattle.letters.specs.Letters.{mapped}
+use Rattle.letters.specs.Record.{wordMark, recordAt, wordAt}
+use Rattle.letters.specs.declared.record.Record.the-variants as found
 
 -- the records of the words X follow each other from the offset p on, up to the offset e
 pub data Stands (m b : List ℕ) (e : ℕ) : ℕ → Words → Type 0 where

@@ -3,10 +3,10 @@ use mathlib.Core.List.{List, [], _∷_}
 use Prim.Native.Nat.{ℕ, _+_}
 use lib.ListN.{length}
 use Rattle.meaning.specs.Words.{total}
+use Rattle.letters.specs.declared.record.BlockRecord.{BlockRecord}
+use Rattle.letters.specs.declared.record.BlockRecord.the-variants as block
 use Rattle.records.specs.Run.{Run, ran, refused}
 use Rattle.records.specs.Book.{Blocks, texts, bad, Opened, opened, shut}
-use Rattle.records.specs.declared.record.BlockRecord.{BlockRecord}
-use Rattle.records.specs.declared.record.BlockRecord.the-variants as block
 use Rattle.records.specs.declared.dictionary.Dictionary.{Dictionary}
 use Rattle.records.specs.declared.dictionary.Dictionary.the-variants as dictionary
 use Rattle.records.specs.declared.book.Book.{Book}

@@ -9,9 +9,9 @@ ghost use Rattle.records.specs.Book.{blocks as blocksOf, texts, book as 
 ghost use Rattle.records.specs.Told.{dictionaryTold, runTells, bookTold, bookTells, blocksTell};
 use crate::dictionary::Dictionary;
 use crate::dictionary::word_run;
-use crate::limits::LONGEST_BOOK;
-use crate::record::BlockRecord;
-use crate::record::block_at;
+use letters::BlockRecord;
+use letters::LONGEST_BOOK;
+use letters::block_at;
 
 // So many words and blocks, and the offset of the first block record; or a refusal.
 pub enum Book {

@@ -4,17 +4,17 @@ ghost use Prim.Native.Nat.{_+_, _≤_, _<_};
 ghost use lib.ListN.{length};
 ghost use Rattle.meaning.specs.Numbers.{mostLetters};
 ghost use Rattle.meaning.specs.Words.{Words as WordList, has};
-ghost use Rattle.records.specs.Letters.{mapped};
-ghost use Rattle.records.specs.Record.{wordAt};
+ghost use Rattle.letters.specs.Letters.{mapped};
+ghost use Rattle.letters.specs.Record.{wordAt};
 ghost use Rattle.records.specs.Run.{recordAfter, run, dictionary, pastWords};
 ghost use Rattle.records.specs.Stored.{Stands, Before};
 ghost use Rattle.records.specs.Told.{dictionaryTold, runTells};
-use crate::letters::same_letters;
-use crate::limits::MOST_LETTERS;
-use crate::limits::MOST_WORDS;
-use crate::record::Record;
-use crate::record::record_at;
-use crate::record::word_len;
+use letters::MOST_LETTERS;
+use letters::MOST_WORDS;
+use letters::Record;
+use letters::record_at;
+use letters::same_letters;
+use letters::word_len;
 
 // How a run of word records ends: so many words with so many letters, and the offset past them; or a refusal.
 pub enum Dictionary {

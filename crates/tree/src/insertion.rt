@@ -4,7 +4,7 @@ ghost use Prim.Native.Nat.{_<_};
 ghost use lib.ListN.{getD};
 ghost use Rattle.meaning.specs.Numbers.{absent, letterValues, mostStates};
 ghost use Rattle.meaning.specs.Words.{Words, word};
-ghost use Rattle.records.specs.Letters.{mapped};
+ghost use Rattle.letters.specs.Letters.{mapped};
 ghost use Rattle.tree.specs.Layout.{HasRow};
 ghost use Rattle.tree.specs.Insertion.{attached, rootChild, noted, Open, Reaching, Insertable, Inserted};
 use crate::children::seek;
@@ -98,7 +98,7 @@ fn reach(
 fn wide_letter(map: &[u8], b: u8) -> usize
     ensures { λ r. ⌜ (r ≡ getD (now (map .entry)) b 0) × (r < letterValues) ⌝ }
 {
-    records::letter(map, b) as usize
+    letters::letter(map, b) as usize
 }
 
 // Word k is put into the tree of n states. Tells the number of states after.

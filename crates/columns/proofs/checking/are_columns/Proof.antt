@@ -5,7 +5,7 @@ use borrow.Author.Tests.{not-true, not-false}
 use denote.Ref.{now}
 use lib.ListN.{length}
 use Rattle.meaning.specs.Words.{Words}
-use Rattle.records.specs.Letters.{mapped}
+use Rattle.letters.specs.Letters.{mapped}
 use Rattle.tree.proofs.Whole.{table-whole}
 use Rattle.columns.specs.Entries.{Reached}
 use Rattle.columns.specs.Scans.{Room}

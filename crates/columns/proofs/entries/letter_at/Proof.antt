@@ -2,7 +2,7 @@
 use mathlib.Core.Path.{sym, _∙_}
 use borrow.Author.Needs.{needs}
 use denote.Ref.{now}
-use Rattle.records.proofs.Bytes.{mapped-at}
+use Rattle.letters.proofs.Bytes.{mapped-at}
 use Rattle.columns.proofs.entries.letter_at.Statement.{statement}
 use Rattle.columns.proofs.entries.letter_at.Tie as tie
 

@@ -7,7 +7,7 @@ use denote.Ref.{now}
 use lib.ListN.{length, set, length-set}
 use Rattle.meaning.specs.Numbers.{longestText}
 use Rattle.meaning.specs.Words.{Words}
-use Rattle.records.specs.Letters.{mapped}
+use Rattle.letters.specs.Letters.{mapped}
 use Rattle.tree.proofs.Whole.{table-whole}
 use Rattle.columns.specs.Columns.{Scanned}
 use Rattle.columns.specs.Entries.{Reached, IsEntry}

@@ -11,7 +11,7 @@ use lib.ListN.{length, getD}
 use Rattle.meaning.specs.Numbers.{mostCounted}
 use Rattle.meaning.specs.Words.{Word, Words, if_then_else_}
 use Rattle.meaning.specs.Readings.{countAt}
-use Rattle.records.specs.Letters.{mapped}
+use Rattle.letters.specs.Letters.{mapped}
 use Rattle.records.specs.Run.{Run}
 use Rattle.columns.proofs.Entry.{mapped-size}
 use Rattle.listing.specs.Positions.{Whole}

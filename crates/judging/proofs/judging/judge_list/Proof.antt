@@ -7,7 +7,7 @@ use native.Mathlib.Omega.{arith}
 use borrow.Author.Needs.{needs}
 use denote.Ref.{now}
 use Rattle.meaning.specs.Words.{Word, Words, if_then_else_}
-use Rattle.records.specs.Letters.{mapped}
+use Rattle.letters.specs.Letters.{mapped}
 use Rattle.records.specs.Run.{Run}
 use Rattle.columns.specs.Scans.{Room, areColumns}
 use Rattle.judging.specs.Under.{wordsUnder}

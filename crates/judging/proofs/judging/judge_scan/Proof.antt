@@ -8,7 +8,7 @@ use denote.Ref.{now}
 use lib.ListN.{length}
 use Rattle.meaning.specs.Words.{Word, Words}
 use Rattle.meaning.specs.Table.{table}
-use Rattle.records.specs.Letters.{mapped}
+use Rattle.letters.specs.Letters.{mapped}
 use Rattle.records.specs.Run.{Run}
 use Rattle.columns.proofs.Entry.{mapped-size}
 use Rattle.judging.specs.Under.{wordsUnder}

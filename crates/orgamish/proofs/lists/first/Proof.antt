@@ -10,7 +10,7 @@ use lib.ListN.{length}
 use Rattle.meaning.specs.Words.{Word, Words, Reading}
 use Rattle.meaning.specs.Readings.{readings}
 use Rattle.meaning.specs.Plain.{Allowed}
-use Rattle.records.specs.Letters.{mapped}
+use Rattle.letters.specs.Letters.{mapped}
 use Rattle.records.specs.Run.{Run}
 use Rattle.columns.proofs.Entry.{mapped-size}
 use Rattle.listing.specs.Positions.{Whole}

@@ -13,7 +13,7 @@ use Rattle.meaning.specs.Words.{if_then_else_, Word, Words, Reading}
 use Rattle.meaning.specs.Listing.{nextReading}
 use Rattle.meaning.specs.Plain.{Allowed}
 use Rattle.meaning.proofs.Readings.{isReading-is}
-use Rattle.records.specs.Letters.{mapped}
+use Rattle.letters.specs.Letters.{mapped}
 use Rattle.records.specs.Run.{Run}
 use Rattle.columns.proofs.Entry.{mapped-size}
 use Rattle.listing.specs.Positions.{Stated, Whole, Giving}

@@ -9,7 +9,7 @@ use lib.ListN.{length, take}
 use Rattle.meaning.specs.Words.{Word, Words, find}
 use Rattle.meaning.specs.Readings.{readings}
 use Rattle.meaning.specs.Plain.{Allowed}
-use Rattle.records.specs.Letters.{mapped}
+use Rattle.letters.specs.Letters.{mapped}
 use Rattle.records.specs.Run.{Run}
 use Rattle.columns.proofs.Entry.{mapped-size}
 use Rattle.numbering.specs.declared.placing.Placed.{Placed}

@@ -11,7 +11,7 @@ use Rattle.meaning.specs.Words.{Word, Words}
 use Rattle.meaning.specs.Table.{over}
 use Rattle.meaning.specs.Readings.{accepted, countAt, stateColumn, countColumn, probes, farthest}
 use Rattle.meaning.proofs.Farthest.{farthest-within}
-use Rattle.records.specs.Letters.{mapped}
+use Rattle.letters.specs.Letters.{mapped}
 use Rattle.records.specs.Run.{Run}
 use Rattle.records.specs.Told.{answer}
 use Rattle.columns.specs.Scans.{Room, Scans}

@@ -8,9 +8,9 @@ use borrow.Author.Tests.{le-leb, lt-leb, le-ltb, lt-ltb}
 use borrow.Author.Needs.{needs}
 use Rattle.meaning.specs.Numbers.{mostWords, mostLetters}
 use Rattle.meaning.specs.Words.{total}
-use Rattle.records.specs.Record.{recordAt}
-use Rattle.records.specs.declared.record.Record.the-variants.{Word}
-use Rattle.records.proofs.Records.{FitsWord, word-fits}
+use Rattle.letters.specs.Record.{recordAt}
+use Rattle.letters.specs.declared.record.Record.the-variants.{Word}
+use Rattle.letters.proofs.Records.{FitsWord, word-fits}
 use Rattle.records.proofs.dictionary.record_after.Statement.{statement}
 use Rattle.records.proofs.dictionary.record_after.Tie as tie
 

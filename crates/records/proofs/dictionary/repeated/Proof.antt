@@ -7,11 +7,11 @@ use native.Mathlib.Omega.{arith}
 use denote.Ref.{now}
 use borrow.Author.Needs.{needs}
 use Rattle.meaning.specs.Words.{Words}
-use Rattle.records.specs.Letters.{mapped}
+use Rattle.letters.specs.Letters.{mapped}
+use Rattle.letters.proofs.Bytes.{mapped-length}
+use Rattle.letters.specs.Record.{wordAt}
 use Rattle.records.proofs.Standing.{left-unlike, Left, none-left, left-same, left-other}
-use Rattle.records.proofs.Bytes.{mapped-length}
 use Rattle.records.specs.Stored.{Stands}
-use Rattle.records.specs.Record.{wordAt}
 use Rattle.records.proofs.dictionary.repeated.Statement.{statement}
 use Rattle.records.proofs.dictionary.repeated.Tie as tie
 

@@ -7,7 +7,7 @@ use denote.Ref.{now}
 use lib.ListN.{length}
 use borrow.Author.Needs.{needs}
 use Rattle.records.specs.Run.{pastWords}
-use Rattle.records.proofs.Records.{past-stop, past-next}
+use Rattle.records.proofs.Walking.{past-stop, past-next}
 use Rattle.records.proofs.dictionary.word_place.Statement.{statement}
 use Rattle.records.proofs.dictionary.word_place.Tie as tie
 

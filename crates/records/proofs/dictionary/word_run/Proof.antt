@@ -6,7 +6,7 @@ use native.Mathlib.Omega.{arith}
 use denote.Ref.{now}
 use borrow.Author.Needs.{needs}
 use Rattle.meaning.specs.Numbers.{mostWords}
-use Rattle.records.specs.Letters.{mapped}
+use Rattle.letters.specs.Letters.{mapped}
 use Rattle.records.specs.Run.{recordAfter}
 use Rattle.records.specs.Told.{dictionaryTold}
 use Rattle.records.proofs.Walking.{Walking, starts, before, offset, ended, stopped, next}

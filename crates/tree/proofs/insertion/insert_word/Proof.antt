@@ -5,8 +5,8 @@ use native.Mathlib.Omega.{arith}
 use denote.Ref.{now}
 use lib.ListN.{length, getD, length-map}
 use Rattle.meaning.specs.Words.{Word, Words}
-use Rattle.records.specs.Letters.{mapped}
-use Rattle.records.proofs.Bytes.{mapped-at}
+use Rattle.letters.specs.Letters.{mapped}
+use Rattle.letters.proofs.Bytes.{mapped-at}
 use Rattle.tree.specs.Insertion.{Insertable}
 use Rattle.tree.proofs.Inserting.{Partly, start, opens, reaches, partly-row, inserted}
 use Rattle.tree.proofs.insertion.insert_word.Statement.{statement}

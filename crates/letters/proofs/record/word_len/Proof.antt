@@ -1,13 +1,13 @@
--- `records::record::word_len` meets its contract: by the cases of the record (`measured`).
+-- `letters::record::word_len` meets its contract: by the cases of the record (`measured`).
 use mathlib.Core.Path.{_≡_, sym, _∙_}
 use denote.Ref.{now}
 use borrow.Author.Needs.{needs}
-use Rattle.records.specs.Record.{wordLen, Measured}
-use Rattle.records.specs.declared.record.Record.{Record}
-use Rattle.records.specs.declared.record.Record.the-variants.{End, Block, Word, Bad}
-use Rattle.records.proofs.Records.{measured}
-use Rattle.records.proofs.record.word_len.Statement.{statement}
-use Rattle.records.proofs.record.word_len.Tie as tie
+use Rattle.letters.specs.Record.{wordLen, Measured}
+use Rattle.letters.specs.declared.record.Record.{Record}
+use Rattle.letters.specs.declared.record.Record.the-variants.{End, Block, Word, Bad}
+use Rattle.letters.proofs.Records.{measured}
+use Rattle.letters.proofs.record.word_len.Statement.{statement}
+use Rattle.letters.proofs.record.word_len.Tie as tie
 
 by : (c : tie.After-record-at) (r : Record) → c .record-at .result ≡ r
     → let a = c .before .before .args in Measured (now (a .bytes)) (a .at) (wordLen r)

@@ -1,4 +1,4 @@
--- `records::record::block_at` meets its contract: each test of the code is the definition's; the last answer is the callee's.
+-- `letters::record::block_at` meets its contract: each test of the code is the definition's; the last answer is the callee's.
 use mathlib.Core.Path.{_≡_, sym, _∙_}
 use mathlib.Core.Bool.{true, false}
 use Prim.Native.Nat.{_+_, _≤_, _<_}
@@ -8,9 +8,9 @@ use lib.ListN.{length}
 use denote.Ref.{now}
 use borrow.Author.Tests.{le-leb, lt-leb, le-ltb, lt-ltb, not-true, not-false}
 use borrow.Author.Needs.{needs}
-use Rattle.records.specs.Record.{blockMark, marked}
-use Rattle.records.proofs.record.block_at.Statement.{statement}
-use Rattle.records.proofs.record.block_at.Tie as tie
+use Rattle.letters.specs.Record.{blockMark, marked}
+use Rattle.letters.proofs.record.block_at.Statement.{statement}
+use Rattle.letters.proofs.record.block_at.Tie as tie
 
 abbrev entry : tie.Else2 → tie.Start
 entry c = c .before .before .before .before

@@ -1,4 +1,4 @@
--- `records::letters::same_letters` meets its contract: the invariant: the two words are the same exactly when what is left of them is.
+-- `letters::letters::same_letters` meets its contract: the invariant: the two words are the same exactly when what is left of them is.
 use mathlib.Core.Path.{_≡_, sym, _∙_}
 use mathlib.Core.Bool.{Bool}
 use mathlib.Core.List.{List}
@@ -7,11 +7,11 @@ use native.Mathlib.Omega.{arith}
 use lib.ListN.{length, getD}
 use denote.Ref.{now}
 use borrow.Author.Needs.{needs}
-use Rattle.records.proofs.Bytes.{same-first, other-first}
-use Rattle.records.specs.Letters.{letter, mapped, part}
+use Rattle.letters.proofs.Bytes.{same-first, other-first}
+use Rattle.letters.specs.Letters.{letter, mapped, part}
 use Rattle.meaning.specs.Words.{same}
-use Rattle.records.proofs.letters.same_letters.Statement.{statement}
-use Rattle.records.proofs.letters.same_letters.Tie as tie
+use Rattle.letters.proofs.letters.same_letters.Statement.{statement}
+use Rattle.letters.proofs.letters.same_letters.Tie as tie
 
 abbrev alike : List ℕ → List ℕ → ℕ → ℕ → ℕ → Bool
 alike map bytes p q n = same (mapped map (part bytes p n)) (mapped map (part bytes q n))

@@ -2,23 +2,22 @@
 use mathlib.Core.Path.{_≡_, refl, ap, sym, subst}
 use mathlib.Core.Bool.{true, false, not}
 use mathlib.Core.List.{List, [], _∷_}
-use Prim.Native.Nat.{ℕ, zero, suc, _+_, _*_, _-_, _≤_, _<_}
+use Prim.Native.Nat.{ℕ, _+_, _*_, _≤_, _<_}
 use native.Mathlib.Omega.{arith}
 use lib.ListN.{length, getD, length-take, length-drop}
 use lib.Dec.{ltb, leb, eqb}
-use borrow.Author.Tests.{leb-true, ltb-false, eqb-false, lt-leb, le-ltb, eq-eqb, ne-eqb, not-false}
+use borrow.Author.Tests.{leb-true, ltb-false, eqb-false, lt-leb, le-ltb, ne-eqb, not-false}
 use Rattle.meaning.specs.Numbers.{longestWord, longestText}
 use Rattle.meaning.specs.Words.{same}
 use Rattle.meaning.proofs.Find.{same-true, not-same}
-use Rattle.records.specs.Letters.{part, mapped}
-use Rattle.records.specs.Record.{wordMark, blockMark, marked, recordAt, wordLen, Measured, wordAt, blockAt}
-use Rattle.records.specs.Run.{pastWords}
-use Rattle.records.specs.declared.record.Record.{Record}
-use Rattle.records.specs.declared.record.Record.the-variants.{End, Block, Word, Bad}
-use Rattle.records.specs.declared.record.BlockRecord.{BlockRecord}
-use Rattle.records.specs.declared.record.BlockRecord.the-variants as block
-use Rattle.records.proofs.Cases.{picked}
-use Rattle.records.proofs.Bytes.{mapped-length}
+use Rattle.letters.specs.Letters.{part, mapped}
+use Rattle.letters.specs.Record.{wordMark, blockMark, marked, recordAt, wordLen, Measured, wordAt, blockAt}
+use Rattle.letters.specs.declared.record.Record.{Record}
+use Rattle.letters.specs.declared.record.Record.the-variants.{End, Block, Word, Bad}
+use Rattle.letters.specs.declared.record.BlockRecord.{BlockRecord}
+use Rattle.letters.specs.declared.record.BlockRecord.the-variants as block
+use Rattle.letters.proofs.Cases.{picked}
+use Rattle.letters.proofs.Bytes.{mapped-length}
 
 -- no mark stands where fewer than two bytes are left
 pub unmarked : (x y : ℕ) (b : List ℕ) (at : ℕ) → length b < at + 2 → marked (x ∷ y ∷ []) b at ≡ false
@@ -111,13 +110,3 @@ block-record-fits b at =
 
 pub block-fits : {b : List ℕ} {at n : ℕ} → blockAt b at ≡ block.Text n → FitsBlock b at n
 block-fits {b} {at} {n} e = subst (Block-fits b at) e (block-record-fits b at)
-
--- past the record at an offset: nothing where it is no word, else its bytes
-pub past-stop : (b : List ℕ) (k at : ℕ) → 0 < k → wordLen (recordAt b at) ≡ 0 → pastWords b k at ≡ at
-past-stop b zero at h e = refl
-past-stop b (suc k) at h e = rw (eq-eqb _ _ e)
-
-pub past-next : (b : List ℕ) (k at n : ℕ) → 0 < k → n ≡ wordLen (recordAt b at) → (n ≡ 0 → ⊥)
-    → pastWords b k at ≡ pastWords b (k - 1) (at + 3 + n)
-past-next b zero at n h e d = absurd (omega arith)
-past-next b (suc k) at n h e d = let f : suc k - 1 ≡ k = omega arith in rw (f, ← e, ne-eqb _ _ d)

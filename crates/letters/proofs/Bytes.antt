@@ -12,7 +12,7 @@ use borrow.Author.Tests.{eq-eqb, ne-eqb}
 use Rattle.meaning.specs.Numbers.{letterValues}
 use Rattle.meaning.specs.Words.{same}
 use Rattle.meaning.specs.Plain.{LettersBelow}
-use Rattle.records.specs.Letters.{letter, mapped, countFrom, identity, part}
+use Rattle.letters.specs.Letters.{letter, mapped, countFrom, identity, part}
 
 pub part-length : (b : List ℕ) (p n : ℕ) → p + n ≤ length b → length (part b p n) ≡ n
 part-length b p n h = simp (length-take, length-drop) (omega arith)

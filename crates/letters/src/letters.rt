@@ -3,7 +3,7 @@ ghost use mathlib.Core.Path.{_≡_};
 ghost use Prim.Native.Nat.{_+_, _≤_};
 ghost use lib.ListN.{length};
 ghost use Rattle.meaning.specs.Words.{same};
-ghost use Rattle.records.specs.Letters.{identity as identityOf, letter as letterOf, mapped, part};
+ghost use Rattle.letters.specs.Letters.{identity as identityOf, letter as letterOf, mapped, part};
 
 pub fn wide(x: u8) -> usize
     ensures { λ r. ⌜ r ≡ x ⌝ }

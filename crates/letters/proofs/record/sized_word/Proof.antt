@@ -1,4 +1,4 @@
--- `records::record::sized_word` meets its contract: each test of the code is the definition's.
+-- `letters::record::sized_word` meets its contract: each test of the code is the definition's.
 use Prim.Native.Nat.{_+_, _≤_, _<_}
 use native.Mathlib.Omega.{arith}
 use lib.ListN.{length}
@@ -6,8 +6,8 @@ use denote.Ref.{now}
 use borrow.Author.Tests.{le-ltb, lt-ltb, eq-eqb, ne-eqb}
 use borrow.Author.Needs.{needs}
 use Rattle.meaning.specs.Numbers.{longestWord}
-use Rattle.records.proofs.record.sized_word.Statement.{statement}
-use Rattle.records.proofs.record.sized_word.Tie as tie
+use Rattle.letters.proofs.record.sized_word.Statement.{statement}
+use Rattle.letters.proofs.record.sized_word.Tie as tie
 
 returns : tie.Need-returns
 returns c = simp (eq-eqb _ _ (c .if1 .taken))

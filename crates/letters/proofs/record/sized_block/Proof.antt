@@ -1,4 +1,4 @@
--- `records::record::sized_block` meets its contract: each test of the code is the definition's.
+-- `letters::record::sized_block` meets its contract: each test of the code is the definition's.
 use Prim.Native.Nat.{_+_, _≤_, _<_}
 use native.Mathlib.Omega.{arith}
 use lib.ListN.{length}
@@ -6,8 +6,8 @@ use denote.Ref.{now}
 use borrow.Author.Tests.{le-ltb, lt-ltb}
 use borrow.Author.Needs.{needs}
 use Rattle.meaning.specs.Numbers.{longestText}
-use Rattle.records.proofs.record.sized_block.Statement.{statement}
-use Rattle.records.proofs.record.sized_block.Tie as tie
+use Rattle.letters.proofs.record.sized_block.Statement.{statement}
+use Rattle.letters.proofs.record.sized_block.Tie as tie
 
 returns : tie.Need-returns
 returns c = let l : longestText < c .before .args .len = omega (arith, c .if1 .taken) in simp (lt-ltb _ _ l)

@@ -1,4 +1,4 @@
--- `records::letters::identity` meets its contract: the invariant: each entry passed is its own number.
+-- `letters::letters::identity` meets its contract: the invariant: each entry passed is its own number.
 use mathlib.Core.Path.{_≡_, sym, _∙_}
 use mathlib.Core.List.{List}
 use Prim.Native.Nat.{ℕ, _+_, _-_, _≤_, _<_}
@@ -7,10 +7,10 @@ use lib.Seq.{getD-set-same, getD-set-other, ext-getD}
 use lib.ListN.{set, length-set, length, getD}
 use borrow.Author.Count.{below-more}
 use borrow.Author.Needs.{needs}
-use Rattle.records.specs.Letters.{identity}
-use Rattle.records.proofs.Bytes.{identity-length, identity-at}
-use Rattle.records.proofs.letters.identity.Statement.{statement}
-use Rattle.records.proofs.letters.identity.Tie as tie
+use Rattle.letters.specs.Letters.{identity}
+use Rattle.letters.proofs.Bytes.{identity-length, identity-at}
+use Rattle.letters.proofs.letters.identity.Statement.{statement}
+use Rattle.letters.proofs.letters.identity.Tie as tie
 
 -- one entry more is its own number
 one-more : (l : List ℕ) (i : ℕ) → i < length l

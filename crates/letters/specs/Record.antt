@@ -7,11 +7,11 @@ use lib.ListN.{length, getD}
 use lib.Dec.{leb, ltb, eqb}
 use Rattle.meaning.specs.Numbers.{longestWord, longestText}
 use Rattle.meaning.specs.Words.{if_then_else_, same, Word}
-use Rattle.records.specs.Letters.{part}
-use Rattle.records.specs.declared.record.Record.{Record}
-use Rattle.records.specs.declared.record.Record.the-variants as word
-use Rattle.records.specs.declared.record.BlockRecord.{BlockRecord}
-use Rattle.records.specs.declared.record.BlockRecord.the-variants as block
+use Rattle.letters.specs.Letters.{part}
+use Rattle.letters.specs.declared.record.Record.{Record}
+use Rattle.letters.specs.declared.record.Record.the-variants as word
+use Rattle.letters.specs.declared.record.BlockRecord.{BlockRecord}
+use Rattle.letters.specs.declared.record.BlockRecord.the-variants as block
 
 abbrev pub wordMark : List ℕ
 wordMark = 87 ∷ 68 ∷ []
@@ -32,7 +32,7 @@ sizedWord b at n =
     else word.Word n
 
 -- the record at an offset where a word is due: 1, 3 for the length byte, then as above.
--- Whether a block mark may stand there is for `onRecord` to say
+-- Whether a block mark may stand there is for the run of records to say
 abbrev pub recordAt : List ℕ → ℕ → Record
 recordAt b at =
     if leb (length b) at then word.End

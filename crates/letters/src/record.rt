@@ -3,7 +3,7 @@ ghost use mathlib.Core.Path.{_≡_};
 ghost use mathlib.Core.List.{[], _∷_};
 ghost use Prim.Native.Nat.{_+_, _≤_};
 ghost use lib.ListN.{length};
-ghost use Rattle.records.specs.Record.{marked as markedOf, sizedWord, recordAt, Measured, sizedBlock, blockAt};
+ghost use Rattle.letters.specs.Record.{marked as markedOf, sizedWord, recordAt, Measured, sizedBlock, blockAt};
 use crate::letters::wide;
 use crate::limits::BLOCK_MARK;
 use crate::limits::BLOCK_MARK_NEXT;

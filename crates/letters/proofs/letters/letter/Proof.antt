@@ -1,12 +1,12 @@
--- `records::letters::letter` meets its contract: past the map's end the letter is 0.
+-- `letters::letters::letter` meets its contract: past the map's end the letter is 0.
 use mathlib.Core.Path.{sym}
 use Prim.Native.Nat.{_≤_}
 use native.Mathlib.Omega.{arith}
 use lib.ListN.{length, List·getD-eq-default}
 use denote.Ref.{now}
 use borrow.Author.Needs.{needs}
-use Rattle.records.proofs.letters.letter.Statement.{statement}
-use Rattle.records.proofs.letters.letter.Tie as tie
+use Rattle.letters.proofs.letters.letter.Statement.{statement}
+use Rattle.letters.proofs.letters.letter.Tie as tie
 
 wide-requires : tie.Need-wide-requires
 wide-requires c κs = search needs

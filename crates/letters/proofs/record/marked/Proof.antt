@@ -1,4 +1,4 @@
--- `records::record::marked` meets its contract: each test of the code is one of the bytes of the mark.
+-- `letters::record::marked` meets its contract: each test of the code is one of the bytes of the mark.
 use mathlib.Core.Path.{sym}
 use Prim.Native.Nat.{_+_, _≤_}
 use native.Mathlib.Omega.{arith}
@@ -6,10 +6,10 @@ use lib.ListN.{length}
 use denote.Ref.{now}
 use borrow.Author.Needs.{needs}
 use borrow.Author.Tests.{eq-eqb, ne-eqb}
-use Rattle.records.proofs.Bytes.{part-two}
-use Rattle.records.proofs.Records.{unmarked}
-use Rattle.records.proofs.record.marked.Statement.{statement}
-use Rattle.records.proofs.record.marked.Tie as tie
+use Rattle.letters.proofs.Bytes.{part-two}
+use Rattle.letters.proofs.Records.{unmarked}
+use Rattle.letters.proofs.record.marked.Statement.{statement}
+use Rattle.letters.proofs.record.marked.Tie as tie
 
 returns : tie.Need-returns
 returns c = let a = c .before .args in sym (unmarked (a .x) (a .y) (now (a .bytes)) (a .at) (omega arith))

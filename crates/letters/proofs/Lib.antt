@@ -1,0 +1,4 @@
+pub mod Cases
+pub mod Bytes
+pub mod Records
+pub mod Maps
