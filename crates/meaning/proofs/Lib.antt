@@ -15,3 +15,4 @@ pub mod First
 pub mod Next
 pub mod Numbers
 pub mod Unique
+pub mod Designs

@@ -101,6 +101,13 @@ module _ (m d : List ℕ) (bytes : (x : ℕ) → letter m x < letterValues) {X :
       count-one : (i : ℕ) → i ≤ length u → countAt X t i ≤ 1
       count-one i h = count-at-most-one X words one t i (omega (arith, length-map u (letter m)))
 
+      count-end : countAt X t (length t) ≤ 1
+      count-end = count-at-most-one X words one t (length t) (omega arith)
+
+      -- 22 does not come
+      pub not-greatest : greatestRefusal X t ≡ 0
+      not-greatest = rw (ne-eqb (countAt X t (length t)) mostCounted (λ q. omega (arith, count-end)))
+
       -- where next is not refused
       ended : (b : List ℕ) (k : ℕ) → nextRefusal X tb t ss cs b k ≡ 0
           → (nextTells run tb t ss cs b k ≡ nextTold next.End) × (nextLeaves run tb t ss cs b k ≡ b)
@@ -121,7 +128,7 @@ module _ (m d : List ℕ) (bytes : (x : ℕ) → letter m x < letterValues) {X :
         pub one-count : c ≡ flag verdict
         one-count =
             counts-readings is allowed tb t ss cs clear verdict f c p e
-            ∙ zero-or-one (countAt X t (length t)) (count-at-most-one X words one t (length t) (omega arith))
+            ∙ zero-or-one (countAt X t (length t)) count-end
             ∙ ap flag (counted-accepted X t)
             ∙ ap flag (sym (tells-accepted is allowed tb t ss cs clear verdict f c p e))
           where
@@ -156,12 +163,10 @@ module _ (m d : List ℕ) (bytes : (x : ℕ) → letter m x < letterValues) {X :
             let fits = ap (λ (o : Option Reading). fitRefusal o b) (none-after X words one t (take k b) reading) in
             ended b k (next-came is allowed tb t ss cs clear b k h (isReading-is X t (take k b) .1 reading) fits .comes)
 
-        -- no count is the greatest, so 22 does not come; and no reading stands past 0
+        -- no reading stands past 0
         pub jump-past : (b : List ℕ) (n : ℕ) → 0 < n → jumpTells run tb t ss cs b n ≡ refusal 21 0
         jump-past b n h =
-            let count = count-at-most-one X words one t (length t) (omega arith) in
-            let below : greatestRefusal X t ≡ 0 = rw (ne-eqb (countAt X t (length t)) mostCounted (λ q. omega arith)) in
-            let counted = then-comes (listRefusal X tb t ss cs) (greatestRefusal X t) clear below in
+            let counted = then-comes (listRefusal X tb t ss cs) (greatestRefusal X t) clear not-greatest in
             past-refused is allowed tb t ss cs counted b n (omega (arith, at-most-one X words one t))
 
       -- whatever next answers that is no refusal is End, and leaves the buffer as it was
