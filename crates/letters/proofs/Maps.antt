@@ -35,6 +35,10 @@ unlike m W s i j h k e =
     s .dictionary .distinct i j (omega (arith, length-map W (mapped m))) (omega (arith, length-map W (mapped m)))
     (word-mapped m W i ∙ e ∙ sym (word-mapped m W j))
 
+-- no word is so to another under the map: of the words' bytes, and of the words
+pub none-under : (So : Letters → Letters → Type 0) (m : List ℕ) (W : Words) → NoneIs So (map (mapped m) W) ↔ NoneIs (Under So m) W
+none-under So m W = none-map So (mapped m) refl W
+
 -- letters of bytes, in two parts: each is the letters of bytes
 mapped-split : (m u l k : List ℕ) → l ++ k ≡ mapped m u → ((v : List ℕ) × (mapped m v ≡ l)) × ((w : List ℕ) × (mapped m w ≡ k))
 mapped-split m u [] k e = (([], refl), (u, sym e))
@@ -57,7 +61,3 @@ suffix-under m v u = (
       (w, mapped-append m w v ∙ ap (_++ mapped m v) e ∙ s .joins),
   λ (w, e). record { before = mapped m w; joins = sym (mapped-append m w v) ∙ e },
 )
-
--- no word is so to another under the map: of the words' bytes, and of the words
-pub none-under : (So : Letters → Letters → Type 0) (m : List ℕ) (W : Words) → NoneIs So (map (mapped m) W) ↔ NoneIs (Under So m) W
-none-under So m W = none-map So (mapped m) refl W

@@ -23,8 +23,8 @@ pub record ClosesWith (a : ℕ) (w : Word) : Type 0 where
 -- words of one length
 pub one-length : (X : Words) (n : ℕ) → Each (λ w. length w ≡ n) X → NoneIs ProperSuffix X × NoneIs ProperPrefix X
 one-length X n long = (
-  λ i j k l s. s .proper (suffix-one (s .suffix) (suffix-whole (word X j)) (long i k ∙ sym (long j l))),
-  λ i j k l p. p .proper (whole (word X i) (p .prefix .after) (p .prefix .joins) (long i k ∙ sym (long j l))),
+  λ i j k l s. s .proper (suffix-one (s .suffix) (suffix-whole (word X j)) (long i (omega arith) ∙ sym (long j l))),
+  λ i j k l p. p .proper (whole (word X i) (p .prefix .after) (p .prefix .joins) (long i (omega arith) ∙ sym (long j l))),
 )
   where
     whole : (v r : Word) {u : Word} → v ++ r ≡ u → length v ≡ length u → v ≡ u
@@ -35,19 +35,25 @@ one-length X n long = (
 pub first-mark : (X : Words) (a : ℕ) → Each (BeginsWith a) X → NoneIs ProperSuffix X
 first-mark X a marked i j k l s = go (s .suffix .before) (s .suffix .joins)
   where
+    one : BeginsWith a (word X i)
+    one = marked i (omega arith)
+
     go : (p : Word) → p ++ word X i ≡ word X j → ⊥
     go [] e = s .proper e
     go (b ∷ p) e =
         let rest : p ++ word X i ≡ marked j l .rest = tail-eq-of-cons-eq (e ∙ marked j l .joins) in
-        marked j l .once (rw (← rest, marked i k .joins) (Memᴰ·append-right p (List·Memᴰ·head refl)))
+        marked j l .once (rw (← rest, one .joins) (Memᴰ·append-right p (List·Memᴰ·head refl)))
 
 -- .. that ends every word
 pub last-mark : (X : Words) (a : ℕ) → Each (ClosesWith a) X → NoneIs ProperPrefix X
 last-mark X a marked i j k l p = go (snoc-view (p .prefix .after)) (p .prefix .joins)
   where
+    one : ClosesWith a (word X i)
+    one = marked i (omega arith)
+
     go : {r : Word} → Snoc r → word X i ++ r ≡ word X j → ⊥
     go nothing e = p .proper (sym (append-nil (word X i)) ∙ e)
     go (last r x) e =
         let rest : word X i ++ r ≡ marked j l .rest
         = snoc-inj (word X i ++ r) (marked j l .rest) (append-assoc (word X i) r (x ∷ []) ∙ e ∙ marked j l .joins) .0 in
-        marked j l .once (rw (← rest, marked i k .joins) (Memᴰ·append-left r (Memᴰ·append-right (marked i k .rest) (List·Memᴰ·head refl))))
+        marked j l .once (rw (← rest, one .joins) (Memᴰ·append-left r (Memᴰ·append-right (one .rest) (List·Memᴰ·head refl))))
