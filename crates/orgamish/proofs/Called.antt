@@ -39,7 +39,7 @@ module _ {test : Words → ℕ} {run : Run} {X : Words} {n : ℕ} (κ : Came tes
   came-leaves after before =
       ap (λ (k : ℕ). leftBy k (after X) before) (sym (κ .comes)) ∙ ap (leaves test after before) (sym (κ .is))
 
--- an answer without a refusal's number is none
+-- an answer whose number is 0 is no refusal
 pub tells-clear : (test : Words → ℕ) (values : Words → List ℕ) {run : Run} {X : Words} {end : ℕ} → run ≡ ran X end
     → tells test values run .number ≡ 0 → test X ≡ 0
 tells-clear test values {X = X} is e = go (test X) (ap (λ (r : Run). tells test values r .number) (sym is) ∙ e)

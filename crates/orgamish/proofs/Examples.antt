@@ -16,12 +16,12 @@ use Rattle.records.specs.Stored.{wordRecords}
 use Rattle.records.proofs.Accepted.{accepted, storable}
 
 -- the words a, ab, bb
-abbrev endings : Words
-endings = (97 ∷ []) ∷ (97 ∷ 98 ∷ []) ∷ (98 ∷ 98 ∷ []) ∷ []
+abbrev suffixFree : Words
+suffixFree = (97 ∷ []) ∷ (97 ∷ 98 ∷ []) ∷ (98 ∷ 98 ∷ []) ∷ []
 
 -- a, ba, bb
-abbrev beginnings : Words
-beginnings = (97 ∷ []) ∷ (98 ∷ 97 ∷ []) ∷ (98 ∷ 98 ∷ []) ∷ []
+abbrev prefixFree : Words
+prefixFree = (97 ∷ []) ∷ (98 ∷ 97 ∷ []) ∷ (98 ∷ 98 ∷ []) ∷ []
 
 -- a, ab, ba
 abbrev neither : Words
@@ -35,21 +35,21 @@ cased = (65 ∷ []) ∷ (97 ∷ 98 ∷ []) ∷ (98 ∷ 97 ∷ []) ∷ []
 is-dictionary : (X : Words) {at : ℕ} → dictionary identity (wordRecords X) ≡ ran X at → Dictionary X
 is-dictionary X e = storable (accepted false identity (wordRecords X) e) .dictionary
 
-pub no-endings : NoneIs ProperSuffix endings
+pub meets-suffix : NoneIs ProperSuffix suffixFree
 unfolding run identity
-no-endings = suffix-free-r endings (is-dictionary endings refl) .1 (suc-le-suc zero-le)
+meets-suffix = suffix-free-r suffixFree (is-dictionary suffixFree refl) .1 (suc-le-suc zero-le)
 
-pub no-beginnings : NoneIs ProperPrefix beginnings
+pub meets-prefix : NoneIs ProperPrefix prefixFree
 unfolding run identity
-no-beginnings = prefix-free-r beginnings (is-dictionary (map reverse beginnings) refl) .1 (suc-le-suc zero-le)
+meets-prefix = prefix-free-r prefixFree (is-dictionary (map reverse prefixFree) refl) .1 (suc-le-suc zero-le)
 
--- though r is 2 there: a ends ba
-pub beginnings-r : longestChain beginnings ≡ 2
-beginnings-r = refl
+-- though its r is 2: a ends ba
+pub prefix-r : longestChain prefixFree ≡ 2
+prefix-r = refl
 
-pub both-met : NoneIs ProperSuffix cased × NoneIs ProperPrefix cased
+pub meets-both : NoneIs ProperSuffix cased × NoneIs ProperPrefix cased
 unfolding run identity
-both-met = (
+meets-both = (
   suffix-free-r cased (is-dictionary cased refl) .1 (suc-le-suc zero-le),
   prefix-free-r cased (is-dictionary (map reverse cased) refl) .1 (suc-le-suc zero-le),
 )
