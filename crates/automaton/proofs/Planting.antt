@@ -7,7 +7,7 @@ use native.Mathlib.Numerals.{add-one}
 use native.Mathlib.Omega.{arith}
 use lib.ListN.{length, getD, take, drop, take-append-drop}
 use lib.Seq.{sets, length-sets, length-take-le, take-suc, getD-take, take-all}
-use Rattle.meaning.specs.Numbers.{letterValues, mostStates, absent}
+use Rattle.meaning.specs.Numbers.{mostStates, absent}
 use Rattle.meaning.specs.Words.{Word, Words, snoc, find, word, total}
 use Rattle.meaning.specs.Automaton.{prefixes, addAll, states}
 use Rattle.meaning.specs.Table.{stored, firstChild, lastLetter, nextSibling, width}
@@ -21,9 +21,11 @@ use Rattle.records.specs.Stored.{place, Holds}
 use Rattle.records.proofs.Accepted.{accepted, word-stands, place-next}
 use Rattle.tree.specs.Layout.{fieldAt, HasRow, newRow}
 use Rattle.tree.specs.Tree.{Column}
+use Rattle.tree.specs.Index.{indexLength}
 use Rattle.tree.specs.Insertion.{Growing, Insertable, Inserted}
 use Rattle.automaton.specs.Building.{Accepted, Planted}
 use Rattle.tree.proofs.Cells.{row-here, row-past}
+use Rattle.tree.proofs.Blocks.{no-owners}
 use Rattle.tree.proofs.Climb.{root-inside}
 
 -- the empty dictionary
@@ -44,7 +46,7 @@ root-column t j f e zero l = e
 root-column t j f e (suc s) l = absurd (omega arith)
 
 pub rooted : (t : List ℕ) {t′ index : List ℕ} → HasRow t 0 → t′ ≡ sets t (width * 0) (newRow absent absent 0)
-    → ((a : ℕ) → a < letterValues → getD index a 0 ≡ absent) → Growing [] (states []) t′ index 1
+    → ((i : ℕ) → i < indexLength → getD index i 0 ≡ absent) → Growing [] (states []) t′ index 1
 rooted t {t′} {index} room e empty = record {
   tree = record {
     states = allowed-bounded [] no-words;
@@ -61,7 +63,7 @@ rooted t {t′} {index} room e empty = record {
     links = column 6 (λ u. absent) (omega arith) refl;
     chains = column 7 (λ u. 0) (omega arith) refl;
   };
-  indexed = λ a l. empty a l;
+  indexed = no-owners (allowed-bounded [] no-words) (λ a l. empty (0 + a) (omega arith)) (λ i l m. empty i m);
   count = refl;
 }
   where

@@ -3,7 +3,7 @@ use mathlib.Core.Path.{_≡_}
 use mathlib.Core.List.{List}
 use Prim.Native.Nat.{ℕ, _*_, _≤_, _<_}
 use lib.ListN.{length, getD}
-use Rattle.meaning.specs.Numbers.{letterValues, mostStates, absent}
+use Rattle.meaning.specs.Numbers.{mostStates, absent}
 use Rattle.meaning.specs.Words.{Words}
 use Rattle.meaning.specs.Automaton.{states, longestChain}
 use Rattle.meaning.specs.Table.{width, over}
@@ -12,6 +12,7 @@ use Rattle.records.specs.Run.{ran, dictionary}
 use Rattle.tree.specs.declared.layout.Form.{Form}
 use Rattle.tree.specs.declared.layout.Form.the-variants.{Wide}
 use Rattle.tree.specs.Forms.{widthIn, tableIn}
+use Rattle.tree.specs.Index.{indexLength}
 use Rattle.tree.specs.Insertion.{Growing}
 
 -- the bytes are a dictionary of the words X, so many of them
@@ -29,7 +30,7 @@ pub record Buildable (form : Form) (X : Words) (m b : List ℕ) (words : ℕ) (t
 -- .. and an index of no states
 pub record Plantable (X : Words) (m b : List ℕ) (words : ℕ) (t index : List ℕ) : Type 0 where
   pub buildable : Buildable Wide X m b words t
-  pub empty : (a : ℕ) → a < letterValues → getD index a 0 ≡ absent
+  pub empty : (i : ℕ) → i < indexLength → getD index i 0 ≡ absent
 
 -- the tree of X stands; past the rows the table is as it was
 pub record Planted (X : Words) (t t′ index : List ℕ) (n : ℕ) : Type 0 where

@@ -10,7 +10,8 @@ use Rattle.meaning.specs.Numbers.{mostStates, absent}
 use Rattle.meaning.specs.Words.{if_then_else_, Words, snoc, find, word}
 use Rattle.meaning.specs.Table.{borderField}
 use Rattle.tree.specs.Layout.{fieldAt}
-use Rattle.tree.specs.Tree.{Tree, Indexed}
+use Rattle.tree.specs.Tree.{Tree}
+use Rattle.tree.specs.Index.{Indexed}
 use Rattle.tree.specs.Filling.{Known, Grown}
 
 -- state s has its border; its link and its chain's length are written with it

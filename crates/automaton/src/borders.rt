@@ -4,6 +4,7 @@ ghost use Rattle.meaning.specs.Words.{Words};
 ghost use Rattle.tree.specs.Insertion.{Growing};
 ghost use Rattle.tree.specs.Filling.{Completed};
 ghost use Rattle.automaton.specs.Queue.{Settling, Settles, Taking, Taken};
+use tree::INDEX_LENGTH;
 use tree::NONE;
 use tree::border;
 use tree::child_border;
@@ -21,7 +22,7 @@ use tree::wide;
 // The border's own row tells the link and the length: no border is climbed and no chain walked for them.
 fn settle(
     table: &mut [u16],
-    index: &[u16; 256],
+    index: &[u16; INDEX_LENGTH],
     queue: &mut [u16; 2048],
     tail: usize,
     p: usize,
@@ -46,7 +47,7 @@ fn settle(
 // The same of the children of p, which join the queue.
 fn take_out(
     table: &mut [u16],
-    index: &[u16; 256],
+    index: &[u16; INDEX_LENGTH],
     queue: &mut [u16; 2048],
     end: usize,
     p: usize,
@@ -64,9 +65,9 @@ fn take_out(
 }
 
 // The same of all states, each once: the queue begins with the root, and depths rise along it. At most 2,048 states are taken out;
-// for each the siblings below its own letter are passed at its border, and those borders are climbed that a text of its word would
-// climb. A link costs at most two reads, a chain's length two.
-pub fn complete_rows(table: &mut [u16], index: &[u16; 256])
+// for each the siblings below its own letter are passed at its border, unless the index has that state's children, and those borders
+// are climbed that a text of its word would climb. A link costs at most two reads, a chain's length two.
+pub fn complete_rows(table: &mut [u16], index: &[u16; INDEX_LENGTH])
     requires { ⌜ ((X S : Words) × Growing X S (now table) (now index) (length S)) ⌝ }
     ensures { λ _. ⌜ ((X S : Words) → Growing X S (now (table .entry)) (now (index .entry)) (length S) → Completed X S (now (table .entry)) (now (table .exit))) ⌝ }
 {

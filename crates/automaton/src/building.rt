@@ -4,6 +4,7 @@ ghost use Rattle.tree.specs.declared.layout.Form.the-variants.{Wide, Narrow};
 ghost use Rattle.automaton.specs.Building.{Buildable, Plantable, Planted, Builds};
 use crate::borders::complete_rows;
 use tree::Form;
+use tree::INDEX_LENGTH;
 use tree::MOST_NUMBERS;
 use tree::NO_CHILD;
 use tree::NONE;
@@ -19,7 +20,13 @@ pub struct Built {
 }
 
 // The words are put into the tree, record by record. Tells the number of states.
-fn plant(map: &[u8], dict: &[u8], words: usize, table: &mut [u16], index: &mut [u16; 256]) -> usize
+fn plant(
+    map: &[u8],
+    dict: &[u8],
+    words: usize,
+    table: &mut [u16],
+    index: &mut [u16; INDEX_LENGTH],
+) -> usize
     requires { ⌜ ((X : Words) × Plantable X (now map) (now dict) words (now table) (now index)) ⌝ }
     ensures { λ r. ⌜ ((X : Words) → Plantable X (now (map .entry)) (now (dict .entry)) words (now (table .entry)) (now (index .entry)) → Planted X (now (table .entry)) (now (table .exit)) (now (index .exit)) r) ⌝ }
 {
@@ -43,7 +50,7 @@ fn build_wide(map: &[u8], dict: &[u8], words: usize, table: &mut [u16]) -> Built
     requires { ⌜ ((X : Words) × Buildable Wide X (now map) (now dict) words (now table)) ⌝ }
     ensures { λ r. ⌜ ((X : Words) → Buildable Wide X (now (map .entry)) (now (dict .entry)) words (now (table .entry)) → Builds Wide X (now (table .entry)) (now (table .exit)) (r .states) (r .longest)) ⌝ }
 {
-    let mut index = [NO_CHILD; 256];
+    let mut index = [NO_CHILD; INDEX_LENGTH];
     let states = plant(map, dict, words, table, &mut index);
     complete_rows(table, &index);
     let longest = longest_chain(table, states);

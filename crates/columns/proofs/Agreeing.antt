@@ -14,7 +14,7 @@ use Rattle.meaning.specs.Automaton.{states}
 use Rattle.meaning.specs.Readings.{stateAt, countAt, upTo, stateColumn, countColumn}
 use Rattle.meaning.proofs.Find.{Tested, pass, fail, test, same-refl, same-true}
 use Rattle.meaning.proofs.Columns.{column-at}
-use Rattle.tree.specs.Tree.{Indexed}
+use Rattle.tree.specs.Index.{Indexed}
 use Rattle.columns.specs.Columns.{Columns}
 use Rattle.columns.specs.Entries.{Reached, IsEntry}
 use Rattle.columns.specs.Scans.{Room, holdsAt, areColumns}

@@ -14,7 +14,8 @@ use Rattle.meaning.proofs.States.{states-trie}
 use Rattle.meaning.proofs.Suffixes.{nearest-here}
 use Rattle.meaning.proofs.Chains.{chain-length}
 use Rattle.meaning.proofs.Columns.{state-inside, state-chain, probes-within-r}
-use Rattle.tree.specs.Tree.{IsTable, Indexed}
+use Rattle.tree.specs.Tree.{IsTable}
+use Rattle.tree.specs.Index.{Indexed}
 use Rattle.tree.proofs.Walk.{state-small}
 use Rattle.tree.proofs.Whole.{table-whole}
 use Rattle.columns.specs.Columns.{Columns}

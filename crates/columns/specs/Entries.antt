@@ -8,7 +8,8 @@ use Rattle.meaning.specs.Words.{Word, Words, word, size}
 use Rattle.meaning.specs.Automaton.{states, chain}
 use Rattle.meaning.specs.Readings.{stateAt, countAt, upTo}
 use Rattle.meaning.proofs.Counts.{cappedSum}
-use Rattle.tree.specs.Tree.{IsTable, Indexed}
+use Rattle.tree.specs.Tree.{IsTable}
+use Rattle.tree.specs.Index.{Indexed}
 
 -- r is the letter at place i of the text t
 pub record LetterAt (t : Word) (i r : ℕ) : Type 0 where

@@ -6,7 +6,7 @@ ghost use Rattle.meaning.specs.Words.{Words};
 ghost use Rattle.letters.specs.Letters.{mapped};
 ghost use Rattle.columns.specs.Scans.{Room, holdsAt, areColumns};
 use crate::entries::entry_after;
-use tree::root_index;
+use tree::child_index;
 use tree::wide;
 
 fn holds_at(states: &[u16], counts: &[u64], i: usize, s: usize, c: u64) -> bool
@@ -31,7 +31,7 @@ pub fn are_columns(map: &[u8], table: &[u16], text: &[u8], states: &[u16], count
     if !holds_at(states, counts, 0, 0, 1) {
         return false;
     }
-    let index = root_index(table);
+    let index = child_index(table);
     let mut s = 0;
     let mut i = 0;
     while i < text.len() {

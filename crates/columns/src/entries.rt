@@ -6,6 +6,7 @@ ghost use Rattle.meaning.specs.Words.{Words};
 ghost use Rattle.meaning.specs.Readings.{capped};
 ghost use Rattle.letters.specs.Letters.{mapped};
 ghost use Rattle.columns.specs.Entries.{LetterAt, Ending, Tallied, Reached, IsEntry};
+use tree::INDEX_LENGTH;
 use tree::NONE;
 use tree::depth;
 use tree::first_word;
@@ -68,7 +69,7 @@ pub struct Entry {
 pub fn entry_after(
     map: &[u8],
     table: &[u16],
-    index: &[u16; 256],
+    index: &[u16; INDEX_LENGTH],
     text: &[u8],
     counts: &[u64],
     s: usize,

@@ -4,7 +4,7 @@ ghost use Rattle.letters.specs.Letters.{mapped};
 ghost use Rattle.columns.specs.Scans.{Room, Scans};
 use crate::entries::entry_after;
 use crate::reaching::farthest;
-use tree::root_index;
+use tree::child_index;
 
 // What a scan tells: how far the text can be read, the count at its end, and the probes.
 pub struct Findings {
@@ -13,9 +13,10 @@ pub struct Findings {
     pub probes: u32,
 }
 
-// A text is read alone: it begins in state 0 with the count 1. The index takes at most 256 turns. Then one turn a letter, at most
-// 4,096; each goes along at most r words of a chain and, at each state of the step's climb, along the siblings below the letter. All
-// turns together climb at most as many borders as the text has letters. At last `farthest` goes back to the last reading.
+// A text is read alone: it begins in state 0 with the count 1. The index is filled once and takes at most 256 turns more than there
+// are states. Then one turn a letter, at most 4,096; each goes along at most r words of a chain and, at each state of the step's climb
+// whose children the index has not, along the siblings below the letter. All turns together climb at most as many borders as the text
+// has letters. At last `farthest` goes back to the last reading.
 pub fn scan(
     map: &[u8],
     table: &[u16],
@@ -30,7 +31,7 @@ pub fn scan(
         → Scans X (mapped (now (map .entry)) (now (text .entry))) (now (states .entry)) (now (states .exit))
         (now (counts .entry)) (now (counts .exit)) (r .farthest) (r .count) (r .probes)) ⌝ }
 {
-    let index = root_index(table);
+    let index = child_index(table);
     states[0] = 0;
     counts[0] = 1;
     let mut count: u64 = 1;

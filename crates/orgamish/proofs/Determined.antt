@@ -4,9 +4,9 @@ use mathlib.Core.Bool.{Bool, true, false}
 use mathlib.Core.List.{List}
 use Prim.Native.Nat.{ℕ}
 use native.Mathlib.Omega.{arith}
-use Rattle.meaning.specs.Words.{Word}
+use Rattle.meaning.specs.Words.{Word, Words}
 use Rattle.records.specs.Run.{Run}
-use Rattle.records.specs.Book.{Opened}
+use Rattle.records.specs.Book.{Opened, Block}
 use Rattle.records.specs.Told.{Told}
 use Rattle.records.proofs.Determined.{parts}
 use Rattle.orgamish.specs.Calls.{flag, buildTells, buildLeaves, widenTells, widenLeaves, narrowTells, narrowLeaves, scanTells, scanLeavesStates, scanLeavesCounts, firstTells, firstLeaves, nextTells, nextLeaves, jumpTells, jumpLeaves, placeTells, checkTells}
@@ -134,3 +134,7 @@ module _ (run : Run) (tb : List ℕ) where
 
 pub book-decides : (o : Opened) (r s : BookAnswer) → bookTold r ≡ checkTells o → bookTold s ≡ checkTells o → r ≡ s
 book-decides o r s p q = book-once r s (p ∙ sym q)
+
+pub part-decides : {b : List ℕ} {T : Words} {n offset : ℕ} {start len start′ len′ : ℕ} → Block b T n offset start len
+    → Block b T n offset start′ len′ → (start ≡ start′) × (len ≡ len′)
+part-decides p q = (p .stands ∙ sym (q .stands), p .length-is ∙ sym (q .length-is))

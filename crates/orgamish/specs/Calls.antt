@@ -4,13 +4,13 @@ use mathlib.Core.Option.{Option, none, some}
 use mathlib.Core.List.{List, [], _∷_, head?}
 use Prim.Native.Nat.{ℕ, zero, suc}
 use lib.ListN.{length, getElem?, take}
-use Rattle.meaning.specs.Words.{Word, Words, Reading, find}
+use Rattle.meaning.specs.Words.{Word, Words, Reading, word, find}
 use Rattle.meaning.specs.Automaton.{states, longestChain}
 use Rattle.meaning.specs.Table.{table, narrowTable, over}
 use Rattle.meaning.specs.Readings.{readings, accepted, countAt, stateColumn, countColumn, probes, farthest}
 use Rattle.meaning.specs.Listing.{nextReading}
 use Rattle.records.specs.Run.{Run, ran, refused}
-use Rattle.records.specs.Book.{Opened, opened, shut}
+use Rattle.records.specs.Book.{Opened, opened, shut, textsOf, offsetOf}
 use Rattle.records.specs.Told.{Told, refusal, answer}
 use Rattle.judging.specs.Order.{buildRefusal, moveRefusal, scanRefusal, firstRefusal, nextRefusal, jumpRefusal, placeRefusal}
 
@@ -140,3 +140,7 @@ module _ (run : Run) (tb : List ℕ) where
 abbrev pub checkTells : Opened → Told
 checkTells (opened X start T) = answer (length X ∷ length T ∷ [])
 checkTells (shut number place) = refusal number place
+
+-- the offset of block n's text, and its length
+abbrev pub blockTells : Opened → ℕ → Told
+blockTells o n = answer (offsetOf o n ∷ length (word (textsOf o) n) ∷ [])

@@ -51,3 +51,9 @@ pub enum BookAnswer {
     Blocks { words: u16, blocks: u16 },
     Refused { number: u16, place: u16 },
 }
+
+// The offset of a block's text in its book, and its length.
+pub struct BlockPart {
+    pub start: usize,
+    pub len: usize,
+}

@@ -6,6 +6,7 @@ mod numbers;
 mod scans;
 mod tables;
 
+pub use answers::BlockPart;
 pub use answers::BookAnswer;
 pub use answers::BuildAnswer;
 pub use answers::FirstAnswer;
@@ -13,6 +14,7 @@ pub use answers::NextAnswer;
 pub use answers::PlaceAnswer;
 pub use answers::ScanAnswer;
 pub use books::block;
+pub use books::block_part;
 pub use books::check_book;
 pub use letters::identity;
 pub use lists::first;

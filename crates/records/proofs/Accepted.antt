@@ -11,13 +11,12 @@ use Rattle.meaning.specs.Plain.{Storable, Allowed, LettersBelow}
 use Rattle.meaning.specs.Words.{Word as Letters, Words, word, total}
 use Rattle.meaning.proofs.Find.{once-distinct}
 use Rattle.letters.specs.Letters.{letter, part, mapped}
-use Rattle.letters.specs.Record.{recordAt, wordLen, wordAt}
-use Rattle.letters.specs.declared.record.Record.the-variants.{Word}
+use Rattle.letters.specs.Record.{wordLen, wordAt}
 use Rattle.letters.proofs.Bytes.{part-length, mapped-at, mapped-below}
 use Rattle.letters.proofs.Records.{FitsWord, word-fits, word-size}
 use Rattle.records.specs.Run.{ran, run, dictionary, pastWords}
 use Rattle.records.specs.Stored.{Stands, stop, step, place, Holds}
-use Rattle.records.proofs.Run.{stands-end, Good, Ended, Ends, run-ended}
+use Rattle.records.proofs.Run.{stands-end, holds, Good, Ended, Ends, run-ended}
 use Rattle.records.proofs.Walking.{past-next}
 
 ended : (inBook : Bool) (m b : List ℕ) {X : Words} {at : ℕ} → run inBook (mapped m) b ≡ ran X at → Ended m b inBook X at
@@ -31,23 +30,11 @@ pub whole : (m b : List ℕ) {X : Words} {at : ℕ} → dictionary m b ≡ ran X
 whole m b e = ended false m b e .whole refl
 
 -- word k's record stands at its place
-here : (m b : List ℕ) (p n : ℕ) → recordAt b p ≡ Word n → Holds m b p (wordAt (mapped m) b p n)
-here m b p n q =
-    let f : FitsWord b p n = word-fits q in
-    let l : length (wordAt (mapped m) b p n) ≡ n = word-size m b p n q in
-    record {
-      record-here = q ∙ ap Word (sym l);
-      letters = ap (wordAt (mapped m) b p) (sym l);
-      nonempty = omega (arith, f .nonempty);
-      short = omega (arith, f .short);
-      within = omega (arith, f .within);
-    }
-
 stands-at : {m b : List ℕ} {e p : ℕ} {X : Words} → Stands m b e p X → (k : ℕ) → k < length X → Holds m b (p + place X k) (word X k)
 stands-at stop k h = absurd (omega arith)
 stands-at {m} {b} {p = p} (step {n = n} {X} q s) zero h =
     let i : p ≡ p + (3 * 0 + 0) = omega arith in
-    subst (λ (j : ℕ). Holds m b j (wordAt (mapped m) b p n)) i (here m b p n q)
+    subst (λ (j : ℕ). Holds m b j (wordAt (mapped m) b p n)) i (holds m b p n q)
 stands-at {m} {b} {p = p} (step {n = n} {X} q s) (suc k) h =
     let l = word-size m b p n q in
     let i : p + 3 + n + place X k ≡ p + place (wordAt (mapped m) b p n ∷ X) (suc k) = omega arith in

@@ -1,5 +1,7 @@
 pub mod Run
-pub mod Standing
+pub mod Classes
+pub mod Searching
+pub mod Indexing
 pub mod Walking
 pub mod Blocks
 pub mod Accepted

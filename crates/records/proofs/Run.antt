@@ -1,5 +1,5 @@
 -- What holds of the words of a run that is not refused.
-use mathlib.Core.Path.{_≡_, refl, subst}
+use mathlib.Core.Path.{_≡_, refl, ap, sym, _∙_, subst}
 use mathlib.Core.Bool.{Bool, true, false}
 use mathlib.Core.Option.{some}
 use mathlib.Core.List.{List, [], _∷_}
@@ -22,7 +22,7 @@ use Rattle.letters.specs.declared.record.Record.the-variants.{End, Block, Word,
 use Rattle.letters.proofs.Cases.{picked}
 use Rattle.letters.proofs.Records.{FitsWord, word-fits, word-size, word-end}
 use Rattle.records.specs.Run.{joined, recordAfter, Run, ran, refused, onRecord, runFrom, run}
-use Rattle.records.specs.Stored.{Stands, stop, step}
+use Rattle.records.specs.Stored.{Stands, stop, step, Holds}
 
 stands-more : {m b : List ℕ} {e p : ℕ} (n : ℕ) {X : Words} → Stands m b e p X → recordAt b e ≡ Word n
     → Stands m b (e + 3 + n) p (snoc X (wordAt (mapped m) b e n))
@@ -33,6 +33,19 @@ stands-more n (step q s) r = step q (stands-more n s r)
 pub stands-end : {m b : List ℕ} {e p : ℕ} {X : Words} → Stands m b e p X → p + 3 * length X + total X ≡ e
 stands-end stop = omega arith
 stands-end {m} {b} {e} {p} (step {n = n} q s) = omega (arith, word-size m b p n q, stands-end s)
+
+-- where a word record is read the record of its word stands
+pub holds : (m b : List ℕ) (p n : ℕ) → recordAt b p ≡ Word n → Holds m b p (wordAt (mapped m) b p n)
+holds m b p n q =
+    let f : FitsWord b p n = word-fits q in
+    let l : length (wordAt (mapped m) b p n) ≡ n = word-size m b p n q in
+    record {
+      record-here = q ∙ ap Word (sym l);
+      letters = ap (wordAt (mapped m) b p) (sym l);
+      nonempty = omega (arith, f .nonempty);
+      short = omega (arith, f .short);
+      within = omega (arith, f .within);
+    }
 
 -- each word is found where it stands: then no two are equal
 abbrev pub Found : Words → Type 0

@@ -4,7 +4,7 @@ use mathlib.Core.Bool.{Bool}
 use mathlib.Core.List.{List, [], _∷_}
 use Prim.Native.Nat.{ℕ, zero, suc, _+_, _*_, _-_, _<_}
 use native.Mathlib.Omega.{arith}
-use lib.ListN.{length}
+use lib.ListN.{length, replicate}
 use borrow.Author.Tests.{eq-eqb, ne-eqb}
 use Rattle.meaning.specs.Numbers.{mostWords}
 use Rattle.meaning.specs.Words.{Words, snoc, total}
@@ -16,25 +16,31 @@ use Rattle.letters.specs.declared.record.Record.{Record}
 use Rattle.letters.specs.declared.record.Record.the-variants.{Word}
 use Rattle.letters.proofs.Records.{word-size}
 use Rattle.records.specs.Run.{recordAfter, Run, ran, refused, onRecord, runFrom, run, pastWords}
-use Rattle.records.specs.Stored.{Before}
+use Rattle.records.specs.Classes.{entries, Indexed, Known}
 use Rattle.records.specs.Told.{answer, refusal, runTells}
 use Rattle.records.proofs.Run.{stands-end, Joins, joins, Good, good-none, good-more}
+use Rattle.records.proofs.Indexing.{indexed-none}
 
--- the walk has come to an offset, past so many words with so many letters
-pub record Walking (inBook : Bool) (m b : List ℕ) (words letters at : ℕ) : Type 0 where
+-- the walk has come to an offset, past so many words with so many letters, which the index has
+pub record Walking (inBook : Bool) (m b index : List ℕ) (words letters at : ℕ) : Type 0 where
   pub X : Words
   pub good : Good m b X at
   pub count : length X ≡ words
   pub sum : total X ≡ letters
+  pub indexed : Indexed m b index X
   pub goes : run inBook (mapped m) b ≡ runFrom inBook (mapped m) b (suc mostWords - words) X at
 
-pub starts : (inBook : Bool) (m b : List ℕ) → Walking inBook m b 0 0 0
+pub starts : (inBook : Bool) (m b : List ℕ) → Walking inBook m b (replicate entries 0) 0 0 0
 unfolding run
-starts inBook m b = record { X = []; good = good-none m b; count = refl; sum = refl; goes = refl }
+starts inBook m b = record { X = []; good = good-none m b; count = refl; sum = refl; indexed = indexed-none m b; goes = refl }
 
-module _ {inBook : Bool} {m b : List ℕ} {words letters at : ℕ} (w : Walking inBook m b words letters at) where
-  pub before : Before m b at words letters (w .X)
-  before = record { stands = w .good .stands; count = w .count; sum = w .sum }
+module _ {inBook : Bool} {m b index : List ℕ} {words letters at : ℕ} (w : Walking inBook m b index words letters at) where
+  pub known : Known m b index at words letters (w .X)
+  known = record {
+    before = record { stands = w .good .stands; count = w .count; sum = w .sum };
+    small = w .good .small;
+    indexed = w .indexed;
+  }
 
   pub offset : at ≡ 3 * words + letters
   offset = omega (arith, stands-end (w .good .stands), w .count, w .sum)
@@ -60,10 +66,12 @@ module _ {inBook : Bool} {m b : List ℕ} {words letters at : ℕ} (w : Walking 
       → refusal number words ≡ runTells (run inBook (mapped m) b)
   stopped {r} e q = rw (comes r e, q, w .count)
 
-  -- the record here is a word
-  pub next : (n : ℕ) → Word n ≡ recordAfter (mapped m) b (w .X) at → Walking inBook m b (words + 1) (letters + n) (at + 3 + n)
+  -- the record here is a word, which joins the index
+  pub next : {index′ : List ℕ} (n : ℕ) → Word n ≡ recordAfter (mapped m) b (w .X) at
+      → Indexed m b index′ (snoc (w .X) (wordAt (mapped m) b at n))
+      → Walking inBook m b index′ (words + 1) (letters + n) (at + 3 + n)
   unfolding more
-  next n e =
+  next n e ι =
       let j : Joins m b (w .X) at n = joins m b (w .X) at n (sym e) in
       let v = wordAt (mapped m) b at n in
       let fuel : mostWords - words ≡ suc mostWords - (words + 1) = omega arith in
@@ -72,6 +80,7 @@ module _ {inBook : Bool} {m b : List ℕ} {words letters at : ℕ} (w : Walking 
         good = good-more m b (w .X) at n j (w .good);
         count = omega (arith, snoc-length (w .X) v, w .count);
         sum = omega (arith, total-append (w .X) (v ∷ []), word-size m b at n (j .stands), w .sum);
+        indexed = ι;
         goes = comes (Word n) e ∙ ap (λ (k : ℕ). runFrom inBook (mapped m) b k (snoc (w .X) v) (at + 3 + n)) fuel;
       }
 

@@ -1,8 +1,11 @@
 -- A book: its words, then its blocks, or the first refusal.
+use mathlib.Core.Path.{_≡_}
 use mathlib.Core.List.{List, []}
-use Prim.Native.Nat.{ℕ, zero, suc, _+_}
-use lib.ListN.{length}
-use Rattle.meaning.specs.Words.{Words, snoc}
+use Prim.Native.Nat.{ℕ, zero, suc, _+_, _*_, _≤_}
+use lib.Dec.{ltb}
+use lib.ListN.{length, take}
+use Rattle.meaning.specs.Words.{Words, word, snoc, total, if_then_else_}
+use Rattle.letters.specs.Letters.{part}
 use Rattle.letters.specs.Record.{blockAt, textAt}
 use Rattle.letters.specs.declared.record.BlockRecord.{BlockRecord}
 use Rattle.letters.specs.declared.record.BlockRecord.the-variants.{End, Text, Bad}
@@ -51,3 +54,19 @@ byteBook b = withBlocks b (bookRun (λ u. u) b)
 abbrev pub textsOf : Opened → Words
 textsOf (opened X at T) = T
 textsOf (shut number place) = []
+
+-- the offset of block n's text, where the first block record is at an offset: each record has four bytes besides its text; 0 where
+-- there is no such block
+abbrev pub offsetFrom : ℕ → Words → ℕ → ℕ
+offsetFrom at T n = if ltb n (length T) then at + 4 * suc n + total (take n T) else 0
+
+abbrev pub offsetOf : Opened → ℕ → ℕ
+offsetOf (opened X at T) n = offsetFrom at T n
+offsetOf (shut number place) n = 0
+
+-- a part of the bytes is block n of the texts T, at its offset
+pub record Block (b : List ℕ) (T : Words) (n offset : ℕ) (start len : ℕ) : Type 0 where
+  pub stands : start ≡ offset
+  pub length-is : len ≡ length (word T n)
+  pub within : start + len ≤ length b
+  pub is : part b start len ≡ word T n

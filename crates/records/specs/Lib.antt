@@ -2,3 +2,4 @@ pub mod Run
 pub mod Book
 pub mod Told
 pub mod Stored
+pub mod Classes

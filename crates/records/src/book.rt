@@ -5,7 +5,7 @@ ghost use lib.ListN.{length};
 ghost use Rattle.meaning.specs.Numbers.{mostWords, longestBook};
 ghost use Rattle.meaning.specs.Words.{Words as TextList, word as textOf};
 ghost use Rattle.records.specs.Run.{bookWords};
-ghost use Rattle.records.specs.Book.{blocks as blocksOf, texts, book as bookOf, textsOf};
+ghost use Rattle.records.specs.Book.{blocks as blocksOf, texts, book as bookOf, textsOf, offsetFrom, offsetOf, Block};
 ghost use Rattle.records.specs.Told.{dictionaryTold, runTells, bookTold, bookTells, blocksTell};
 use crate::dictionary::Dictionary;
 use crate::dictionary::word_run;
@@ -76,31 +76,57 @@ pub fn check_book(map: &[u8], book: &[u8]) -> Book
     }
 }
 
-// The text of block n of the block records from an offset on, or an empty part.
-fn nth_block(book: &[u8], start: usize, n: usize) -> &[u8]
+// A part of a book: its offset and its length.
+pub struct Part {
+    pub start: usize,
+    pub len: usize,
+}
+
+// The text of block n of the block records from an offset on.
+fn nth_part(book: &[u8], start: usize, n: usize) -> Part
     requires { ⌜ start ≤ length (now book) ⌝ }
-    ensures { λ r. ⌜ ((T : TextList) → blocksOf (now (book .entry)) start ≡ texts T → now r ≡ textOf T n) ⌝ }
+    ensures { λ r. ⌜
+        ((T : TextList) → blocksOf (now (book .entry)) start ≡ texts T
+        → Block (now (book .entry)) T n (offsetFrom start T n) (r .start) (r .len)) ⌝ }
 {
     let mut k = 0;
     let mut at = start;
     loop {
         match block_at(book, at) {
             BlockRecord::End => {
-                return &book[..0];
+                return Part { start: 0, len: 0 };
             }
             BlockRecord::Bad { number: _ } => {
-                return &book[..0];
+                return Part { start: 0, len: 0 };
             }
             BlockRecord::Text { len } => {
                 let from = at + 4;
-                let to = from + len;
                 if k == n {
-                    return &book[from..to];
+                    return Part { start: from, len };
                 }
                 k = k + 1;
-                at = to;
+                at = from + len;
             }
         }
+    }
+}
+
+// Where the text of block n stands in the book; 0 and 0 where the book is refused or has no such block.
+pub fn block_part(map: &[u8], book: &[u8], n: usize) -> Part
+    ensures { λ r. ⌜
+        Block (now (book .entry)) (textsOf (bookOf (now (map .entry)) (now (book .entry)))) n
+        (offsetOf (bookOf (now (map .entry)) (now (book .entry))) n) (r .start) (r .len) ⌝ }
+{
+    match check_book(map, book) {
+        Book::Refused {
+            number: _,
+            place: _,
+        } => Part { start: 0, len: 0 },
+        Book::Blocks {
+            words: _,
+            blocks: _,
+            start,
+        } => nth_part(book, start as usize, n),
     }
 }
 
@@ -108,15 +134,8 @@ fn nth_block(book: &[u8], start: usize, n: usize) -> &[u8]
 pub fn block<'a>(map: &[u8], book: &'a [u8], n: usize) -> &'a [u8]
     ensures { λ r. ⌜ now r ≡ textOf (textsOf (bookOf (now (map .entry)) (now (book .entry)))) n ⌝ }
 {
-    match check_book(map, book) {
-        Book::Refused {
-            number: _,
-            place: _,
-        } => &book[..0],
-        Book::Blocks {
-            words: _,
-            blocks: _,
-            start,
-        } => nth_block(book, start as usize, n),
-    }
+    let part = block_part(map, book, n);
+    let start = part.start;
+    let end = start + part.len;
+    &book[start..end]
 }

@@ -1,19 +1,18 @@
 // The run of word records.
 ghost use mathlib.Core.Path.{_≡_};
-ghost use Prim.Native.Nat.{_+_, _≤_, _<_};
-ghost use lib.ListN.{length};
-ghost use Rattle.meaning.specs.Numbers.{mostLetters};
-ghost use Rattle.meaning.specs.Words.{Words as WordList, has};
+ghost use Prim.Native.Nat.{_<_};
+ghost use Rattle.meaning.specs.Words.{Words as WordList};
 ghost use Rattle.letters.specs.Letters.{mapped};
-ghost use Rattle.letters.specs.Record.{wordAt};
-ghost use Rattle.records.specs.Run.{recordAfter, run, dictionary, pastWords};
-ghost use Rattle.records.specs.Stored.{Stands, Before};
+ghost use Rattle.records.specs.Run.{run, dictionary, pastWords};
 ghost use Rattle.records.specs.Told.{dictionaryTold, runTells};
+ghost use Rattle.records.specs.Classes.{Known, ReadAfter};
+use crate::repeats::class_of;
+use crate::repeats::note;
+use crate::repeats::repeated;
 use letters::MOST_LETTERS;
 use letters::MOST_WORDS;
 use letters::Record;
 use letters::record_at;
-use letters::same_letters;
 use letters::word_len;
 
 // How a run of word records ends: so many words with so many letters, and the offset past them; or a refusal.
@@ -22,32 +21,19 @@ pub enum Dictionary {
     Refused { number: u16, place: u16 },
 }
 
-// Whether the word record at an offset, of n letters, repeats one of the words X that stand before it.
-fn repeated(map: &[u8], bytes: &[u8], at: usize, n: usize) -> bool
-    requires { ⌜ (0 < n) × (at + 3 + n ≤ length (now bytes)) ⌝ }
+// The record at an offset where a word is due, after the words X: 4, 5 and 6 are tested too. A word that passes joins the index.
+fn record_after(
+    map: &[u8],
+    bytes: &[u8],
+    index: &mut [u16; 768],
+    at: usize,
+    words: u16,
+    letters: u16,
+) -> Record
+    requires { ⌜ ((X : WordList) × Known (now map) (now bytes) (now index) at words letters X) ⌝ }
     ensures { λ r. ⌜
-        ((X : WordList) → Stands (now (map .entry)) (now (bytes .entry)) at 0 X
-        → r ≡ has X (wordAt (mapped (now (map .entry))) (now (bytes .entry)) at n)) ⌝ }
-{
-    let mut p = 0;
-    while p < at {
-        let len = word_len(bytes, p);
-        if len == n {
-            if same_letters(map, bytes, p + 3, at + 3, n) {
-                return true;
-            }
-        }
-        p = p + 3 + len;
-    }
-    false
-}
-
-// The record at an offset where a word is due, after the words X: 4, 5 and 6 are tested too.
-fn record_after(map: &[u8], bytes: &[u8], at: usize, words: u16, letters: u16) -> Record
-    requires { ⌜ letters ≤ mostLetters ⌝ }
-    ensures { λ r. ⌜
-        ((X : WordList) → Before (now (map .entry)) (now (bytes .entry)) at words letters X
-        → r ≡ recordAfter (mapped (now (map .entry))) (now (bytes .entry)) X at) ⌝ }
+        ((X : WordList) → Known (now (map .entry)) (now (bytes .entry)) (now (index .entry)) at words letters X
+        → ReadAfter (now (map .entry)) (now (bytes .entry)) (now (index .exit)) at X r) ⌝ }
 {
     match record_at(bytes, at) {
         Record::End => Record::End,
@@ -61,9 +47,11 @@ fn record_after(map: &[u8], bytes: &[u8], at: usize, words: u16, letters: u16) -
             if MOST_LETTERS < sum {
                 return Record::Bad { number: 5 };
             }
-            if repeated(map, bytes, at, len) {
+            let class = class_of(map, bytes, at + 3, len);
+            if repeated(map, bytes, index, class, at, len) {
                 return Record::Bad { number: 6 };
             }
+            note(index, class, words + 1, at);
             Record::Word { len }
         }
     }
@@ -94,8 +82,9 @@ pub fn word_run(map: &[u8], bytes: &[u8], book: bool) -> Dictionary
     let mut words: u16 = 0;
     let mut letters: u16 = 0;
     let mut at = 0;
+    let mut index = [0u16; 768];
     loop {
-        match record_after(map, bytes, at, words, letters) {
+        match record_after(map, bytes, &mut index, at, words, letters) {
             Record::End => {
                 return accepted(words, letters, at);
             }

@@ -2,9 +2,12 @@
 // No call here requires anything, and each contract decides the answer for all bytes.
 mod book;
 mod dictionary;
+mod repeats;
 
 pub use book::Book;
+pub use book::Part;
 pub use book::block;
+pub use book::block_part;
 pub use book::book_words;
 pub use book::check_book;
 pub use dictionary::Dictionary;

@@ -18,6 +18,7 @@ use Rattle.tree.specs.Layout.{fieldAt}
 use Rattle.tree.specs.Tree.{Right, Tree, borderOf}
 use Rattle.tree.specs.Filling.{rootStep, Bordered}
 use Rattle.tree.proofs.Walk.{found-small}
+use Rattle.tree.proofs.Blocks.{root-cell}
 
 -- the string of state 0 is empty, and of no other
 pub root-word : {S : Words} → Bounded S → word S 0 ≡ []
@@ -96,7 +97,7 @@ module _ {X S : Words} {t index : List ℕ} {v : ℕ} (β : Bordered X S t index
   by-index byte e = rw (e, root-word (β .tree .states)) (go (ask (find S (snoc [] a))))
     where
       there : getD index a 0 ≡ stored (find S (snoc [] a))
-      there = β .indexed a byte
+      there = root-cell (β .indexed) a byte
 
       go : Asked (find S (snoc [] a)) → nearest S S (snoc [] a) ≡ some (rootStep index a)
       go (got n q) =

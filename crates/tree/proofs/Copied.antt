@@ -1,34 +1,36 @@
 -- Comparing, copying and narrowing the first numbers of a table, one by one.
 use mathlib.Core.Path.{_≡_, refl, sym, ap, _∙_}
-use mathlib.Core.Bool.{true, false}
-use mathlib.Core.List.{List, _++_}
-use Prim.Native.Nat.{ℕ, suc, _+_, _*_, _/_, _%_, _≤_, _<_}
+use mathlib.Core.Bool.{Bool, true, false, _&&_}
+use mathlib.Core.List.{List, [], _∷_, _++_}
+use Prim.Native.Nat.{ℕ, zero, suc, _+_, _*_, _/_, _%_, _≤_, _<_}
 use native.Mathlib.Decide.{ℕ-discrete}
 use native.Mathlib.Nat.{zero-add}
 use native.Mathlib.Numerals.{add-one}
 use native.Mathlib.Omega.{arith}
+use lib.Dec.{eqb}
 use lib.ListN.{length, getD, take, drop, set, length-append, length-take, length-drop, length-set}
 use lib.Seq.{take-suc, getD-take, getD-set-same, getD-set-other, length-take-le, paste, paste-suc}
-use Rattle.meaning.specs.Words.{same}
+use Rattle.meaning.specs.Words.{same, if_then_else_}
 use Rattle.meaning.specs.Table.{width, narrowWidth, over}
-use Rattle.meaning.proofs.Find.{same-refl, not-same}
 use Rattle.tree.specs.Layout.{Narrowed}
 
--- the first i numbers of l and t are the same
-pub record AlikeTo (l t : List ℕ) (i : ℕ) : Type 0 where
-  pub is : take i l ≡ take i t
-
-module _ {l t : List ℕ} {i : ℕ} (φ : AlikeTo l t i) where
-  pub alike-on : i < length l → i < length t → getD l i 0 ≡ getD t i 0 → AlikeTo l t (i + 1)
-  alike-on h k e = record { is = rw (add-one i, take-suc l i 0 h, take-suc t i 0 k, φ .is, e) }
-
-  pub alike-true : (n : ℕ) → i ≡ n → true ≡ same (take n l) (take n t)
-  alike-true n e = sym (rw (← e, φ .is) (same-refl (take i t)))
-
-pub alike-false : (l t : List ℕ) (i n : ℕ) → i < n → (getD l i 0 ≡ getD t i 0 → ⊥) → false ≡ same (take n l) (take n t)
-alike-false l t i n h d =
-    sym (not-same (take n l) (take n t)
-    (λ e. d (sym (getD-take n l i 0 h) ∙ ap (λ (r : List ℕ). getD r i 0) e ∙ getD-take n t i 0 h)))
+-- whether the first numbers of l and t are the same, with one number more
+pub same-on : (l t : List ℕ) (i : ℕ) → i < length l → i < length t
+    → same (take i l) (take i t) && eqb (getD l i 0) (getD t i 0) ≡ same (take (suc i) l) (take (suc i) t)
+same-on [] t i h k = absurd (omega (arith, h))
+same-on (x ∷ l) [] i h k = absurd (omega (arith, k))
+same-on (x ∷ l) (y ∷ t) zero h k = one (eqb x y)
+  where
+    one : (b : Bool) → b ≡ if b then true else false
+    one true = refl
+    one false = refl
+same-on (x ∷ l) (y ∷ t) (suc i) h k = more (same-on l t i (omega (arith, h)) (omega (arith, k))) (eqb x y)
+  where
+    more : same (take i l) (take i t) && eqb (getD l i 0) (getD t i 0) ≡ same (take (suc i) l) (take (suc i) t) → (b : Bool)
+        → (if b then same (take i l) (take i t) else false) && eqb (getD l i 0) (getD t i 0)
+        ≡ if b then same (take (suc i) l) (take (suc i) t) else false
+    more r true = r
+    more r false = refl
 
 -- m is l with the first i numbers of t written over its own
 pub record CopiedTo (l t : List ℕ) (i : ℕ) (m : List ℕ) : Type 0 where

@@ -1,10 +1,11 @@
 pub mod Cells
 pub mod Walk
+pub mod Blocks
 pub mod Climb
+pub mod Indexing
 pub mod NewState
 pub mod Grow
 pub mod Inserting
 pub mod Chain
-pub mod RootIndex
 pub mod Copied
 pub mod Whole

@@ -3,20 +3,20 @@ use mathlib.Core.Path.{_≡_, sym, ap, _∙_}
 use mathlib.Core.Option.{none, some}
 use mathlib.Core.List.{List}
 use Prim.Native.Nat.{ℕ, suc, _-_, _<_, _≤_}
-use native.Mathlib.Decide.{decLt}
+use native.Mathlib.Decide.{decLt, ℕ-discrete}
 use native.Mathlib.Omega.{arith}
 use lib.Dec.{eqb}
 use lib.ListN.{length}
 use borrow.Author.Tests.{ne-eqb}
 use Rattle.meaning.specs.Numbers.{letterValues, mostStates, absent}
 use Rattle.meaning.specs.Words.{if_then_else_, Word, Words, snoc, find, word}
-use Rattle.meaning.specs.Table.{stored, childFrom, lastLetter, nextSibling, letterField, siblingField}
+use Rattle.meaning.specs.Table.{stored, childFrom, firstChild, lastLetter, nextSibling, letterField, childField, siblingField}
 use Rattle.meaning.proofs.Find.{Asked, ask, got, lacks, none-or-some, none-unless, find-some}
-use Rattle.meaning.proofs.Children.{LeastChild, childFrom-some, childFrom-none, childFrom-is, childFrom-no, lastLetter-snoc, sibling-snoc}
+use Rattle.meaning.proofs.Children.{NoChild, LeastChild, childFrom-some, childFrom-none, childFrom-is, childFrom-no, lastLetter-snoc, sibling-snoc}
 use Rattle.meaning.proofs.Rows.{stored-none, stored-some}
 use Rattle.tree.specs.Layout.{fieldAt, HasRow}
 use Rattle.tree.specs.Tree.{Tree}
-use Rattle.tree.specs.Insertion.{Holder, child, Sought}
+use Rattle.tree.specs.Insertion.{Holder, own, child, Sought}
 
 -- c is the child of u with the least letter from b on, and its row says so
 pub record Child (S : Words) (t : List ℕ) (u : Word) (b c : ℕ) : Type 0 where
@@ -40,6 +40,12 @@ module _ {X S : Words} {t : List ℕ} (τ : Tree X S t) where
   pub found-small : (u : Word) {s : ℕ} → find S u ≡ some s → s < absent
   found-small u {s} e = omega (arith, state-small (find-some S u s e .inside))
 
+  -- the pointer in the row of the child by b
+  sibling-of : (u : Word) (b : ℕ) {c : ℕ} → find S (snoc u b) ≡ some c → fieldAt t c siblingField ≡ stored (childFrom S u (suc b))
+  sibling-of u b {c} e =
+      let f = find-some S (snoc u b) c e in
+      τ .siblings c (f .inside) ∙ ap (λ (v : Word). stored (nextSibling S v)) (f .reads) ∙ ap stored (sibling-snoc S u b)
+
   row-of : {u : Word} {b c : ℕ} → LeastChild S u b letterValues c → Child S t u b c
   row-of {u} {b} {c} h =
       let f = find-some S (snoc u (h .letter)) c (h .child) in
@@ -48,10 +54,7 @@ module _ {X S : Words} {t : List ℕ} (τ : Tree X S t) where
         inside = f .inside;
         reads = f .reads;
         letter = τ .letters c (f .inside) ∙ ap (λ (v : Word). stored (lastLetter v)) (f .reads) ∙ ap stored (lastLetter-snoc u (h .letter));
-        next =
-            τ .siblings c (f .inside)
-            ∙ ap (λ (v : Word). stored (nextSibling S v)) (f .reads)
-            ∙ ap stored (sibling-snoc S u (h .letter));
+        next = sibling-of u (h .letter) (h .child);
       }
 
   module _ (u : Word) {b c : ℕ} (e : c ≡ stored (childFrom S u b)) where
@@ -137,6 +140,43 @@ module _ {X S : Words} {t : List ℕ} (τ : Tree X S t) {u : Word} {a before nex
         gap = λ d i j. h d i;
         next-is = e ∙ sym (ap stored (childFrom-no S u a (λ d i j. h d (omega (arith, w .low)))));
       }
+
+  -- where no child from `from` on comes before a
+  pub seek-gap : NoChild S u (w .from) a → Sought S u a before next
+  seek-gap gap = go (ℕ-discrete next absent)
+    where
+      go : Dec (next ≡ absent) → Sought S u a before next
+      go (yes e) = seek-end e
+      go (no d) =
+          let h = seeking-row d in
+          let k : ¬ (h .least .letter < a) = λ l. none-or-some (gap (h .least .letter) (h .least .low) l) (h .least .child) in
+          seek-here d (omega (arith, h .letter))
+
+-- the place of the letter a by what is known of the children before it
+module _ {X S : Words} {t : List ℕ} (τ : Tree X S t) {u : Word} {a : ℕ} where
+  -- that by b is the last of them
+  pub place-after : {b q next : ℕ} → find S (snoc u b) ≡ some q → b < a → NoChild S u (suc b) a → next ≡ fieldAt t q siblingField
+      → Sought S u a q next
+  place-after {b} {q} e l gap i =
+      seek-gap τ (record {
+        from = suc b;
+        holder = child b q e;
+        low = l;
+        next-is = i ∙ sibling-of τ u b e;
+      })
+      gap
+
+  -- there is none
+  pub place-first : {p next : ℕ} → p < length S → u ≡ word S p → NoChild S u 0 a → next ≡ fieldAt t p childField
+      → Sought S u a absent next
+  place-first {p} l e gap i =
+      seek-gap τ (record {
+        from = 0;
+        holder = own;
+        low = omega arith;
+        next-is = i ∙ τ .children p l ∙ ap (λ (v : Word). stored (firstChild S v)) (sym e);
+      })
+      gap
 
 -- the child by a, where the search ended
 module _ {X S : Words} {t : List ℕ} (τ : Tree X S t) {u : Word} {a before next : ℕ} (s : Sought S u a before next) where

@@ -12,7 +12,8 @@ use Rattle.meaning.specs.Plain.{Allowed}
 use Rattle.meaning.proofs.States.{Bounded, WordsIn, allowed-bounded, allowed-words}
 use Rattle.meaning.proofs.Rows.{rows-at, rows-length, rows-take, table-length}
 use Rattle.tree.specs.Layout.{fieldAt}
-use Rattle.tree.specs.Tree.{Whole, IsTable, Indexed}
+use Rattle.tree.specs.Tree.{Whole, IsTable}
+use Rattle.tree.specs.Index.{Indexed}
 use Rattle.tree.specs.Filling.{Bordered, LinkedAt}
 
 module _ {X S : Words} {t : List ℕ} where

@@ -10,7 +10,8 @@ use Rattle.meaning.specs.Words.{if_then_else_, Words, word}
 use Rattle.meaning.specs.Automaton.{border as borderState}
 use Rattle.meaning.specs.Table.{width, borderField, linkField, chainField}
 use Rattle.tree.specs.Layout.{fieldAt}
-use Rattle.tree.specs.Tree.{Right, Tree, Whole, borderOf, linkOf, chainOf, Indexed}
+use Rattle.tree.specs.Tree.{Right, Tree, Whole, borderOf, linkOf, chainOf}
+use Rattle.tree.specs.Index.{Indexed}
 
 -- where the root goes by a
 abbrev pub rootStep : List ℕ → ℕ → ℕ

@@ -1,10 +1,10 @@
 -- What a table holds of the states S of the words X.
 use mathlib.Core.Path.{_≡_}
-use mathlib.Core.List.{List, []}
+use mathlib.Core.List.{List}
 use Prim.Native.Nat.{ℕ, _*_, _≤_, _<_}
-use lib.ListN.{length, getD, take}
-use Rattle.meaning.specs.Numbers.{letterValues, absent}
-use Rattle.meaning.specs.Words.{Word, Words, snoc, find, word}
+use lib.ListN.{length, take}
+use Rattle.meaning.specs.Numbers.{absent}
+use Rattle.meaning.specs.Words.{Word, Words, find, word}
 use Rattle.meaning.specs.Automaton.{border, link, chain}
 use Rattle.meaning.specs.Table.{stored, firstChild, lastLetter, nextSibling, width, letterField, childField, siblingField, depthField, wordField, borderField, linkField, chainField, table}
 use Rattle.meaning.specs.Plain.{Allowed}
@@ -57,10 +57,6 @@ pub record Whole (X S : Words) (t : List ℕ) : Type 0 where
 pub record AtState (X S : Words) (t : List ℕ) (s : ℕ) : Type 0 where
   pub tree : Tree X S t
   pub inside : s < length S
-
--- the index of the root's children has the state of each letter
-abbrev pub Indexed : Words → List ℕ → Type 0
-Indexed S index = (a : ℕ) → a < letterValues → getD index a 0 ≡ stored (find S (snoc [] a))
 
 -- t begins with the table of the words X, which are within the limits
 pub record IsTable (X : Words) (t : List ℕ) : Type 0 where

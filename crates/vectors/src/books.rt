@@ -1,11 +1,13 @@
 // The book check and blocks.
 use super::lines::print;
+use super::lines::print_count;
 use super::lines::print_number;
 use super::lines::print_refusal;
 use super::making::put_block;
 use super::making::put_blocks;
 use super::making::put_word;
 use super::plain::block;
+use super::plain::block_part;
 use super::plain::build;
 use super::plain::check_book;
 use super::scans::scan_line;
@@ -41,6 +43,15 @@ fn block_line(name: &[u8], book: &[u8], n: usize) {
     text_line(name, block(book, n));
 }
 
+// The offset and the length of block n's text.
+fn part_line(name: &[u8], book: &[u8], n: usize) {
+    print(name);
+    let part = block_part(book, n);
+    print_count(part.start as u64);
+    print_count(part.len as u64);
+    print(b"\n");
+}
+
 // The verdict on block n under a table of 80 numbers.
 fn verdict_line(name: &[u8], dict: &[u8], book: &[u8], n: usize) {
     let mut table = [7u16; 80];
@@ -59,6 +70,10 @@ pub fn print_example(set_e: &[u8], book: &[u8]) {
     block_line(b"text-0", book, 0);
     block_line(b"text-1", book, 1);
     block_line(b"text-4", book, 4);
+    part_line(b"part-0", book, 0);
+    part_line(b"part-1", book, 1);
+    part_line(b"part-3", book, 3);
+    part_line(b"part-4", book, 4);
 }
 
 pub fn print_book_lengths() {
@@ -88,4 +103,5 @@ pub fn print_bad_books() {
     book_line(b"block-cut", b"WD\x01aTB\x02\x00a");
     book_line(b"word-after-block", b"WD\x01aTB\x01\x00aWD\x01b");
     block_line(b"text-refused", b"WD\x01aTB\x01\x00aWD\x01b", 0);
+    part_line(b"part-refused", b"WD\x01aTB\x01\x00aWD\x01b", 0);
 }

@@ -1,4 +1,5 @@
 // The calls under the map that sends each byte to itself.
+use orgamish::BlockPart;
 use orgamish::BookAnswer;
 use orgamish::BuildAnswer;
 use orgamish::FirstAnswer;
@@ -6,6 +7,7 @@ use orgamish::NextAnswer;
 use orgamish::PlaceAnswer;
 use orgamish::ScanAnswer;
 use orgamish::block as block_under;
+use orgamish::block_part as block_part_under;
 use orgamish::build as build_under;
 use orgamish::check_book as check_book_under;
 use orgamish::first as first_under;
@@ -122,4 +124,8 @@ pub fn check_book(book: &[u8]) -> BookAnswer {
 
 pub fn block<'a>(book: &'a [u8], n: usize) -> &'a [u8] {
     block_under(&identity(), book, n)
+}
+
+pub fn block_part(book: &[u8], n: usize) -> BlockPart {
+    block_part_under(&identity(), book, n)
 }

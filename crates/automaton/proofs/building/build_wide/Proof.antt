@@ -4,7 +4,8 @@ use mathlib.Core.List.{List}
 use Prim.Native.Nat.{ℕ}
 use lib.ListN.{replicate, getD-replicate}
 use Rattle.meaning.specs.Words.{Words}
-use Rattle.meaning.specs.Numbers.{letterValues, absent}
+use Rattle.meaning.specs.Numbers.{absent}
+use Rattle.tree.specs.Index.{indexLength}
 use Rattle.tree.specs.declared.layout.Form.the-variants.{Wide}
 use Rattle.automaton.specs.Building.{Buildable, Plantable}
 use Rattle.automaton.proofs.Finishing.{all-planted, finished}
@@ -12,8 +13,8 @@ use Rattle.automaton.proofs.building.build_wide.Statement.{statement}
 use Rattle.automaton.proofs.building.build_wide.Tie as tie
 
 -- the index is empty at first
-plantable : {X : Words} {m b t : List ℕ} {words : ℕ} → Buildable Wide X m b words t → Plantable X m b words t (replicate letterValues absent)
-plantable β = record { buildable = β; empty = λ a l. getD-replicate letterValues a absent 0 l }
+plantable : {X : Words} {m b t : List ℕ} {words : ℕ} → Buildable Wide X m b words t → Plantable X m b words t (replicate indexLength absent)
+plantable β = record { buildable = β; empty = λ a l. getD-replicate indexLength a absent 0 l }
 
 plant-requires : tie.Need-plant-requires
 plant-requires c κs =

@@ -1,39 +1,36 @@
--- `automaton::rows::same_numbers`: at the loop's head the first i numbers are the same.
-use mathlib.Core.Path.{refl}
+-- `automaton::rows::same_numbers`: at the loop's head it is known of the first i numbers.
+use mathlib.Core.Path.{_≡_, refl}
 use Prim.Native.Nat.{_-_, _≤_}
+use native.Mathlib.Numerals.{add-one}
 use native.Mathlib.Omega.{arith}
+use lib.ListN.{take}
 use denote.Ref.{now}
 use borrow.Author.Needs.{needs}
-use Rattle.tree.proofs.Copied.{AlikeTo, alike-on, alike-true, alike-false}
+use Rattle.meaning.specs.Words.{same}
+use Rattle.tree.proofs.Copied.{same-on}
 use Rattle.automaton.proofs.rows.same_numbers.Statement.{statement}
 use Rattle.automaton.proofs.rows.same_numbers.Tie as tie
 
 abbrev Inv-loop : tie.InvT-loop
-Inv-loop lent table end i₀ i = (i ≤ end) × AlikeTo lent table i
+Inv-loop lent table end alike₀ i₀ alike i = (i ≤ end) × (alike ≡ same (take i lent) (take i table))
 
 abbrev μ-loop : tie.MeasureT-loop
-μ-loop lent table end i₀ i = end - i
+μ-loop lent table end alike₀ i₀ alike i = end - i
 
 loop-holds : tie.Need-loop-holds Inv-loop μ-loop
-loop-holds c = (omega arith, record { is = refl })
+loop-holds c = (omega arith, refl)
 
-mul-if1 : tie.Need-mul-if1 Inv-loop μ-loop
-mul-if1 c = search needs
+mul-alike : tie.Need-mul-alike Inv-loop μ-loop
+mul-alike c = search needs
 
-shared-slice-read-if1 : tie.Need-shared-slice-read-if1 Inv-loop μ-loop
-shared-slice-read-if1 c = search needs
+shared-slice-read-alike : tie.Need-shared-slice-read-alike Inv-loop μ-loop
+shared-slice-read-alike c = search needs
 
-mul-if1-2 : tie.Need-mul-if1-2 Inv-loop μ-loop
-mul-if1-2 c = search needs
+mul-alike-2 : tie.Need-mul-alike-2 Inv-loop μ-loop
+mul-alike-2 c = search needs
 
-shared-slice-read-if1-2 : tie.Need-shared-slice-read-if1-2 Inv-loop μ-loop
-shared-slice-read-if1-2 c = search needs
-
-returns : tie.Need-returns Inv-loop μ-loop
-returns c =
-    let turn = c .before .before .before in
-    let x = turn .before .before .args in
-    alike-false (now (x .lent)) (now (x .table)) (turn .before .loop .i) (x .end) (turn .loop-test .taken) (c .if1 .taken)
+shared-slice-read-alike-2 : tie.Need-shared-slice-read-alike-2 Inv-loop μ-loop
+shared-slice-read-alike-2 c = search needs
 
 add-i : tie.Need-add-i Inv-loop μ-loop
 add-i c = search needs
@@ -43,11 +40,17 @@ loop-less c = search needs
 
 loop-again : tie.Need-loop-again Inv-loop μ-loop
 loop-again c =
-    let φ = c .before .before .before .before .loop .inv in
-    (omega arith, alike-on (φ .1) (omega arith) (omega arith) (c .if1 .left))
+    let l = c .before .before .before in
+    let a = l .before .args in (
+      omega arith,
+      rw (add-one (l .loop .i), l .loop .inv .1)
+          (same-on (now (a .lent)) (now (a .table)) (l .loop .i) (omega arith) (omega arith)),
+    )
 
-returns-2 : tie.Need-returns-2 Inv-loop μ-loop
-returns-2 c = alike-true (c .before .loop .inv .1) (c .before .before .args .end) (omega arith)
+returns : tie.Need-returns Inv-loop μ-loop
+returns c =
+    let e : c .before .loop .i ≡ c .before .before .args .end = omega arith in
+    rw (← e) (c .before .loop .inv .1)
 
 pub same-numbers-spec : {M : Type 1} → statement M
 same-numbers-spec =
@@ -56,12 +59,11 @@ same-numbers-spec =
     Inv-loop
     μ-loop
     loop-holds
-    mul-if1
-    shared-slice-read-if1
-    mul-if1-2
-    shared-slice-read-if1-2
-    returns
+    mul-alike
+    shared-slice-read-alike
+    mul-alike-2
+    shared-slice-read-alike-2
     add-i
     loop-less
     loop-again
-    returns-2)
+    returns)

@@ -21,7 +21,7 @@ Inv-loop map table text states counts index s₀ i₀ s i =
 abbrev μ-loop : tie.MeasureT-loop
 μ-loop map table text states counts index s₀ i₀ s i = length text - i
 
-abbrev start : tie.After-root-index Inv-loop μ-loop → tie.Start Inv-loop μ-loop
+abbrev start : tie.After-child-index Inv-loop μ-loop → tie.Start Inv-loop μ-loop
 start c = c .before .before .before .before .before .before .before .before
 
 -- what the contract asks of the arguments
@@ -35,8 +35,8 @@ holds-at-requires c κs = let (X, ρ) = c .before .before .before .before .befor
 returns : tie.Need-returns Inv-loop μ-loop
 returns c X ρ = first-differs ρ (c .before .holds-at .ensures) (not-true _ (c .if1 .taken))
 
-root-index-requires : tie.Need-root-index-requires Inv-loop μ-loop
-root-index-requires c κs =
+child-index-requires : tie.Need-child-index-requires Inv-loop μ-loop
+child-index-requires c κs =
     let (X, ρ) = c .before .before .before .before .before .before .before .pre in
     (X, _, table-whole (ρ .table) .tree)
 
@@ -53,10 +53,10 @@ place c =
 -- .. so that the entry after it can be computed
 reached : (c : tie.In-loop Inv-loop μ-loop) (X : Words) → Asked (start (c .before .before)) X
     → let a = start (c .before .before) .args in
-    Reached X (mapped (now (a .map)) (now (a .text))) (now (a .table)) (c .before .before .root-index .result) (now (a .counts))
+    Reached X (mapped (now (a .map)) (now (a .text))) (now (a .table)) (c .before .before .child-index .result) (now (a .counts))
     (c .before .loop .s) (c .before .loop .i)
 reached c X ρ =
-    let indexed = c .before .before .root-index .ensures X _ (table-whole (ρ .table) .tree) in
+    let indexed = c .before .before .child-index .ensures X _ (table-whole (ρ .table) .tree) in
     agree-reached ρ (c .before .loop .inv X ρ) indexed (place c)
 
 entry-after-requires : tie.Need-entry-after-requires Inv-loop μ-loop
@@ -102,7 +102,7 @@ are-columns-spec =
     μ-loop
     holds-at-requires
     returns
-    root-index-requires
+    child-index-requires
     loop-holds
     entry-after-requires
     add-i

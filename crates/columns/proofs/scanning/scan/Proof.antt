@@ -26,7 +26,7 @@ abbrev μ-loop : tie.MeasureT-loop
 μ-loop map table text states₀ counts₀ index count₀ probes₀ s₀ i₀ states counts count probes s i =
     length text - i
 
-abbrev start : tie.After-root-index Inv-loop μ-loop → tie.Start Inv-loop μ-loop
+abbrev start : tie.After-child-index Inv-loop μ-loop → tie.Start Inv-loop μ-loop
 start c = c .before .before .before .before .before .before
 
 -- the columns where the loop begins
@@ -35,8 +35,8 @@ Begun a X =
     Room X (mapped (now (a .args .map)) (now (a .args .text))) (now (a .args .table))
     (set (now (a .args .states)) 0 0) (set (now (a .args .counts)) 0 1)
 
-root-index-requires : tie.Need-root-index-requires Inv-loop μ-loop
-root-index-requires c κs =
+child-index-requires : tie.Need-child-index-requires Inv-loop μ-loop
+child-index-requires c κs =
     let (X, ρ) = c .before .before .before .before .before .pre in
     (X, _, table-whole (ρ .table) .tree)
 
@@ -63,9 +63,9 @@ place c =
 -- .. so that the entry after it can be computed, ..
 reached : (c : tie.In-loop Inv-loop μ-loop) (X : Words) → Begun (start (c .before .before)) X
     → let a = start (c .before .before) .args in let l = c .before .loop in
-    Reached X (mapped (now (a .map)) (now (a .text))) (now (a .table)) (c .before .before .root-index .result) (l .counts) (l .s) (l .i)
+    Reached X (mapped (now (a .map)) (now (a .text))) (now (a .table)) (c .before .before .child-index .result) (l .counts) (l .s) (l .i)
 reached c X ρ =
-    let indexed = c .before .before .root-index .ensures X _ (table-whole (ρ .table) .tree) in
+    let indexed = c .before .before .child-index .ensures X _ (table-whole (ρ .table) .tree) in
     filled-reached ρ (c .before .loop .inv X ρ) indexed (place c)
 
 entry-after-requires : tie.Need-entry-after-requires Inv-loop μ-loop
@@ -180,7 +180,7 @@ scan-spec =
     (tie.spec
     Inv-loop
     μ-loop
-    root-index-requires
+    child-index-requires
     slice-write-states
     slice-write-counts
     loop-holds

@@ -45,7 +45,7 @@ add-print-refusal : tie.Need-add-print-refusal Inv-loop μ-loop
 add-print-refusal c =
     let g = c .before .before .before .before .loop .inv in
     let a = c .before .before .before .before .before .before .before .before in
-    omega (arith, g .room, g .within, a .pre)
+    omega (arith, g .offset, g .within, a .pre)
 
 print-refusal-requires : tie.Need-print-refusal-requires Inv-loop μ-loop
 print-refusal-requires c κs = search needs
@@ -85,10 +85,10 @@ returns-3 c = tt
 add-blocks : tie.Need-add-blocks Inv-loop μ-loop
 add-blocks c =
     let g = past (c .before .before .before .before) in
-    omega (arith, g .room, g .within, c .before .before .before .before .before .before .before .before .before .before .before .before .pre)
+    omega (arith, g .offset, g .within, c .before .before .before .before .before .before .before .before .before .before .before .before .pre)
 
 loop-less : tie.Need-loop-less Inv-loop μ-loop
-loop-less c = let g = past (c .before .before .before .before) in omega (arith, g .room, g .within)
+loop-less c = let g = past (c .before .before .before .before) in omega (arith, g .offset, g .within)
 
 loop-again : tie.Need-loop-again Inv-loop μ-loop
 loop-again c = past (c .before .before .before .before)

@@ -41,7 +41,7 @@ add-t9 : tie.Need-add-t9 Inv-loop μ-loop
 add-t9 c =
     let g = c .before .before .before .before .loop .inv in
     let a = c .before .before .before .before .before .before in
-    omega (arith, g .room, g .within, a .pre)
+    omega (arith, g .offset, g .within, a .pre)
 
 returns-2 : tie.Need-returns-2 Inv-loop μ-loop
 returns-2 c =
@@ -52,7 +52,7 @@ enum-known-len : tie.Need-enum-known-len Inv-loop μ-loop
 enum-known-len c = search needs
 
 add-blocks : tie.Need-add-blocks Inv-loop μ-loop
-add-blocks c = let g = past c in omega (arith, g .room, g .within, c .before .before .before .before .before .before .pre)
+add-blocks c = let g = past c in omega (arith, g .offset, g .within, c .before .before .before .before .before .before .pre)
 
 add-at : tie.Need-add-at Inv-loop μ-loop
 add-at c = let g = past c in omega (arith, g .within)
@@ -61,7 +61,7 @@ add-at-2 : tie.Need-add-at-2 Inv-loop μ-loop
 add-at-2 c = let g = past c in omega (arith, g .within)
 
 loop-less : tie.Need-loop-less Inv-loop μ-loop
-loop-less c = let g = past c in omega (arith, g .room, g .within)
+loop-less c = let g = past c in omega (arith, g .offset, g .within)
 
 loop-again : tie.Need-loop-again Inv-loop μ-loop
 loop-again c = past c

@@ -8,7 +8,7 @@ use Rattle.meaning.specs.Words.{Word, Words, snoc, word}
 use Rattle.meaning.specs.Automaton.{nearest}
 use Rattle.meaning.specs.Table.{depthField}
 use Rattle.tree.specs.Layout.{fieldAt}
-use Rattle.tree.specs.Tree.{AtState}
+use Rattle.tree.specs.Index.{IndexedAt}
 use Rattle.tree.specs.Filling.{Bordered}
 use Rattle.tree.proofs.Walk.{state-row}
 use Rattle.tree.proofs.Climb.{up, by-child, no-child, by-border, by-index}
@@ -25,14 +25,14 @@ Inv-loop table index s a v₀ v = (X S : Words) → Bordered X S table index s �
 abbrev μ-loop : tie.MeasureT-loop
 μ-loop table index s a v₀ v = fieldAt table v depthField
 
-at : {X S : Words} {t index : List ℕ} {v : ℕ} → Bordered X S t index v → AtState X S t v
-at β = record { tree = β .tree; inside = β .inside }
+at : {X S : Words} {t index : List ℕ} {v : ℕ} → Bordered X S t index v → IndexedAt X S t index v
+at β = record { at = record { tree = β .tree; inside = β .inside }; indexed = β .indexed }
 
 loop-holds : tie.Need-loop-holds Inv-loop μ-loop
 loop-holds c X S β = record { here = β; is = refl }
 
-child-by-requires : tie.Need-child-by-requires Inv-loop μ-loop
-child-by-requires c κs =
+child-of-requires : tie.Need-child-of-requires Inv-loop μ-loop
+child-of-requires c κs =
     let pre = c .before .before .before .pre in
     let h = c .before .loop .inv _ _ (pre .0 .2) in
     ((pre .0 .0, pre .0 .1, at (h .here)), pre .1)
@@ -40,7 +40,7 @@ child-by-requires c κs =
 returns : tie.Need-returns Inv-loop μ-loop
 returns c X S β =
     let h = c .before .before .before .loop .inv X S β in
-    h .is ∙ by-child (h .here) _ (c .before .child-by .ensures X S (at (h .here))) (c .if1 .taken)
+    h .is ∙ by-child (h .here) _ (c .before .child-of .ensures X S (at (h .here))) (c .if1 .taken)
 
 border-requires : tie.Need-border-requires Inv-loop μ-loop
 border-requires c κs =
@@ -58,7 +58,7 @@ loop-again : tie.Need-loop-again Inv-loop μ-loop
 loop-again c X S β =
     let turn = c .before .before .before in
     let h = turn .before .loop .inv X S β in
-    let gone = no-child (h .here) _ (c .before .before .child-by .ensures X S (at (h .here))) (c .before .if1 .left) in
+    let gone = no-child (h .here) _ (c .before .before .child-of .ensures X S (at (h .here))) (c .before .if1 .left) in
     let next = up (h .here) (c .border .ensures .is) (turn .loop-test .taken) in
     record { here = next .bordered; is = h .is ∙ by-border (h .here) _ gone next }
 
@@ -78,7 +78,7 @@ step-spec =
     Inv-loop
     μ-loop
     loop-holds
-    child-by-requires
+    child-of-requires
     returns
     border-requires
     loop-less
