@@ -90,3 +90,19 @@ module _ {form : Form} {X : Words} {t t′ : List ℕ} {n r : ℕ} (β : Builds 
             ∙ ap (λ (rows : List ℕ). over rows lent) made
             ∙ sym (ap (λ (s : Bool). if s then lent else over (tableIn form X) lent) (is-long l)),
       )
+
+-- a lent table with room for any is written in place
+pub wrote-in-place : {form : Form} {X : Words} {lent lent′ : List ℕ} {n r : ℕ} → Allowed X → width * mostStates ≤ length lent
+    → Builds form X lent lent′ n r → (write.Rows n r ≡ wrote X (tableIn form X) lent) × (lent′ ≡ written (tableIn form X) lent)
+wrote-in-place {form} {X} {lent} {lent′} {n} {r} α room β =
+    let long : tooShort (tableIn form X) lent ≡ false = le-ltb (length lent) (length (tableIn form X)) (omega (arith, form-small form α)) in (
+      ap (λ (k : ℕ). write.Rows k r) (β .count)
+          ∙ ap (λ (k : ℕ). write.Rows (length (states X)) k) (β .longest)
+          ∙ sym (ap (λ (s : Bool). if s then write.Short else write.Rows (length (states X)) (longestChain X)) long),
+      β .rows ∙ sym (ap (λ (s : Bool). if s then lent else over (tableIn form X) lent) long),
+    )
+
+pub roomy-lent : (form : Form) {X : Words} {m b : List ℕ} {words : ℕ} {lent : List ℕ} → Accepted X m b words
+    → width * mostStates ≤ length lent → Buildable form X m b words lent
+roomy-lent Wide α room = record { accepted = α; room = omega (arith, room) }
+roomy-lent Narrow α room = record { accepted = α; room = omega (arith, room) }

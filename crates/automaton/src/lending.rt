@@ -1,4 +1,5 @@
-// A lent table, in either form, beside that of an accepted dictionary, which is made in a local array: so a refusal writes nothing.
+// A lent table, in either form, beside that of an accepted dictionary, which is made in a local array wherever a refusal may follow:
+// so a refusal writes nothing.
 ghost use mathlib.Core.Path.{_≡_};
 ghost use Rattle.meaning.specs.Words.{Words};
 ghost use Rattle.tree.specs.Forms.{tableIn};
@@ -40,7 +41,8 @@ pub fn judge_table(map: &[u8], dict: &[u8], words: usize, form: Form, lent: &[u1
     Judged::Other
 }
 
-pub fn write_table(map: &[u8], dict: &[u8], words: usize, form: Form, lent: &mut [u16]) -> Wrote
+// Made in a local array, and copied if it fits.
+fn write_copy(map: &[u8], dict: &[u8], words: usize, form: Form, lent: &mut [u16]) -> Wrote
     requires { ⌜ ((X : Words) × Accepted X (now map) (now dict) words) ⌝ }
     ensures { λ r. ⌜ ((X : Words) → Accepted X (now (map .entry)) (now (dict .entry)) words → (r ≡ wrote X (tableIn form X) (now (lent .entry))) × (now (lent .exit) ≡ written (tableIn form X) (now (lent .entry)))) ⌝ }
 {
@@ -54,4 +56,19 @@ pub fn write_table(map: &[u8], dict: &[u8], words: usize, form: Form, lent: &mut
     }
     copy_numbers(lent, &table, end);
     Wrote::Rows { states, longest }
+}
+
+// Where there is room for any table nothing is refused any more, and it is made in place.
+pub fn write_table(map: &[u8], dict: &[u8], words: usize, form: Form, lent: &mut [u16]) -> Wrote
+    requires { ⌜ ((X : Words) × Accepted X (now map) (now dict) words) ⌝ }
+    ensures { λ r. ⌜ ((X : Words) → Accepted X (now (map .entry)) (now (dict .entry)) words → (r ≡ wrote X (tableIn form X) (now (lent .entry))) × (now (lent .exit) ≡ written (tableIn form X) (now (lent .entry)))) ⌝ }
+{
+    if lent.len() < MOST_NUMBERS {
+        return write_copy(map, dict, words, form, lent);
+    }
+    let built = build(map, dict, words, form, lent);
+    Wrote::Rows {
+        states: built.states,
+        longest: built.longest,
+    }
 }

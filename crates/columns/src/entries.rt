@@ -7,7 +7,7 @@ ghost use Rattle.meaning.specs.Readings.{capped};
 ghost use Rattle.letters.specs.Letters.{mapped};
 ghost use Rattle.columns.specs.Entries.{LetterAt, Ending, Tallied, Reached, IsEntry};
 use tree::INDEX_LENGTH;
-use tree::NONE;
+use tree::chain_length;
 use tree::depth;
 use tree::first_word;
 use tree::link;
@@ -39,23 +39,28 @@ pub struct Tally {
     pub probes: u32,
 }
 
-// The tally at position i, where the state is s. One turn for each word of the chain, at most r.
+// The tally at position i, where the state is s. One turn for each word of the chain, at most r. The row of s tells how many they are, so
+// that no turn has to wait for a row to know whether it is the last.
 fn tally_at(table: &[u16], counts: &[u64], s: usize, i: usize) -> Tally
     requires { ⌜ ((X : Words) × Ending X (now table) (now counts) s i) ⌝ }
     ensures { λ r. ⌜
         ((X : Words) → Ending X (now (table .entry)) (now (counts .entry)) s i
         → Tallied X (now (counts .entry)) s i (r .count) (r .probes)) ⌝ }
 {
+    let words = chain_length(table, s);
     let mut count: u64 = 0;
-    let mut probes: u32 = 0;
+    let mut left = words;
     let mut v = first_word(table, s);
-    while v != NONE {
+    while left != 0 {
         let before = counts[i - depth(table, v)];
         count = add_capped(count, before);
-        probes += 1;
         v = link(table, v);
+        left -= 1;
     }
-    Tally { count, probes }
+    Tally {
+        count,
+        probes: words as u32,
+    }
 }
 
 // What the columns have at a position, and how many words end there.

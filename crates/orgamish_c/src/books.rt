@@ -8,6 +8,7 @@ ghost use Rattle.judging.specs.Under.{bookUnder};
 ghost use Rattle.orgamish.specs.Calls.{checkTells, blockTells};
 ghost use Rattle.orgamish.specs.Answers.{bookTold};
 ghost use Rattle.orgamish_c.specs.Told.{Passed};
+use crate::told::TOLD;
 use crate::told::answer;
 use crate::told::refuse;
 use orgamish::BookAnswer;
@@ -15,7 +16,7 @@ use orgamish::block_part;
 use orgamish::check_book;
 use orgamish::identity;
 
-fn pass(checked: BookAnswer, told: &mut [u64; 5]) -> u16
+fn pass(checked: BookAnswer, told: &mut [u64; TOLD]) -> u16
     ensures { λ r. ⌜ Passed (bookTold checked) r (now (told .exit)) ⌝ }
 {
     match checked {
@@ -25,7 +26,7 @@ fn pass(checked: BookAnswer, told: &mut [u64; 5]) -> u16
 }
 
 #[no_mangle]
-pub extern "C" fn orgamish_check_book(map: &[u8], book: &[u8], told: &mut [u64; 5]) -> u16
+pub extern "C" fn orgamish_check_book(map: &[u8], book: &[u8], told: &mut [u64; TOLD]) -> u16
     ensures { λ r. ⌜
         Passed (checkTells (bookUnder (now (map .entry)) (now (book .entry)))) r (now (told .exit)) ⌝ }
 {
@@ -34,7 +35,7 @@ pub extern "C" fn orgamish_check_book(map: &[u8], book: &[u8], told: &mut [u64; 
 
 // The bytes there are the block's text.
 #[no_mangle]
-pub extern "C" fn orgamish_block(map: &[u8], book: &[u8], n: usize, told: &mut [u64; 5]) -> u16
+pub extern "C" fn orgamish_block(map: &[u8], book: &[u8], n: usize, told: &mut [u64; TOLD]) -> u16
     ensures { λ r. ⌜
         Passed (blockTells (bookUnder (now (map .entry)) (now (book .entry))) n) r (now (told .exit))
         × (part (now (book .entry)) (getD (now (told .exit)) 1 0) (getD (now (told .exit)) 2 0) ≡ textOf (textsOf (bookUnder (now (map .entry)) (now (book .entry)))) n) ⌝ }

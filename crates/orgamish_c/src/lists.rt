@@ -5,6 +5,7 @@ ghost use Rattle.judging.specs.Under.{wordsUnder};
 ghost use Rattle.orgamish.specs.Calls.{firstTells, firstLeaves, nextTells, nextLeaves};
 ghost use Rattle.orgamish.specs.Answers.{firstTold, nextTold};
 ghost use Rattle.orgamish_c.specs.Told.{Passed};
+use crate::told::TOLD;
 use crate::told::answer;
 use crate::told::refuse;
 use orgamish::FirstAnswer;
@@ -13,7 +14,7 @@ use orgamish::first;
 use orgamish::next;
 
 // Of first and of jump.
-pub fn pass_first(written: FirstAnswer, told: &mut [u64; 5]) -> u16
+pub fn pass_first(written: FirstAnswer, told: &mut [u64; TOLD]) -> u16
     ensures { λ r. ⌜ Passed (firstTold written) r (now (told .exit)) ⌝ }
 {
     match written {
@@ -22,7 +23,7 @@ pub fn pass_first(written: FirstAnswer, told: &mut [u64; 5]) -> u16
     }
 }
 
-fn pass_next(written: NextAnswer, told: &mut [u64; 5]) -> u16
+fn pass_next(written: NextAnswer, told: &mut [u64; TOLD]) -> u16
     ensures { λ r. ⌜ Passed (nextTold written) r (now (told .exit)) ⌝ }
 {
     match written {
@@ -41,7 +42,7 @@ pub extern "C" fn orgamish_first(
     states: &[u16],
     counts: &[u64],
     reading: &mut [u16],
-    told: &mut [u64; 5],
+    told: &mut [u64; TOLD],
 ) -> u16
     ensures { λ r. ⌜
         Passed (firstTells (wordsUnder (now (map .entry)) (now (dict .entry))) (now (table .entry)) (mapped (now (map .entry)) (now (text .entry))) (now (states .entry)) (now (counts .entry)) (now (reading .entry))) r (now (told .exit))
@@ -60,7 +61,7 @@ pub extern "C" fn orgamish_next(
     counts: &[u64],
     reading: &mut [u16],
     given: usize,
-    told: &mut [u64; 5],
+    told: &mut [u64; TOLD],
 ) -> u16
     ensures { λ r. ⌜
         Passed (nextTells (wordsUnder (now (map .entry)) (now (dict .entry))) (now (table .entry)) (mapped (now (map .entry)) (now (text .entry))) (now (states .entry)) (now (counts .entry)) (now (reading .entry)) given) r (now (told .exit))

@@ -6,13 +6,14 @@ ghost use Rattle.orgamish.specs.Calls.{jumpTells, jumpLeaves, placeTells};
 ghost use Rattle.orgamish.specs.Answers.{placeTold};
 ghost use Rattle.orgamish_c.specs.Told.{Passed};
 use crate::lists::pass_first;
+use crate::told::TOLD;
 use crate::told::answer;
 use crate::told::refuse;
 use orgamish::PlaceAnswer;
 use orgamish::jump;
 use orgamish::place as place_of;
 
-fn pass(placed: PlaceAnswer, told: &mut [u64; 5]) -> u16
+fn pass(placed: PlaceAnswer, told: &mut [u64; TOLD]) -> u16
     ensures { λ r. ⌜ Passed (placeTold placed) r (now (told .exit)) ⌝ }
 {
     match placed {
@@ -31,7 +32,7 @@ pub extern "C" fn orgamish_jump(
     counts: &[u64],
     reading: &mut [u16],
     n: u64,
-    told: &mut [u64; 5],
+    told: &mut [u64; TOLD],
 ) -> u16
     ensures { λ r. ⌜
         Passed (jumpTells (wordsUnder (now (map .entry)) (now (dict .entry))) (now (table .entry)) (mapped (now (map .entry)) (now (text .entry))) (now (states .entry)) (now (counts .entry)) (now (reading .entry)) n) r (now (told .exit))
@@ -53,7 +54,7 @@ pub extern "C" fn orgamish_place(
     counts: &[u64],
     reading: &[u16],
     given: usize,
-    told: &mut [u64; 5],
+    told: &mut [u64; TOLD],
 ) -> u16
     ensures { λ r. ⌜
         Passed (placeTells (wordsUnder (now (map .entry)) (now (dict .entry))) (now (table .entry)) (mapped (now (map .entry)) (now (text .entry))) (now (states .entry)) (now (counts .entry)) (now (reading .entry)) given) r (now (told .exit)) ⌝ }

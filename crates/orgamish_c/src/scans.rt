@@ -5,12 +5,13 @@ ghost use Rattle.judging.specs.Under.{wordsUnder};
 ghost use Rattle.orgamish.specs.Calls.{scanTells, scanLeavesStates, scanLeavesCounts};
 ghost use Rattle.orgamish.specs.Answers.{scanTold};
 ghost use Rattle.orgamish_c.specs.Told.{Passed};
+use crate::told::TOLD;
 use crate::told::answer;
 use crate::told::refuse;
 use orgamish::ScanAnswer;
 use orgamish::scan;
 
-fn pass(scanned: ScanAnswer, told: &mut [u64; 5]) -> u16
+fn pass(scanned: ScanAnswer, told: &mut [u64; TOLD]) -> u16
     ensures { λ r. ⌜ Passed (scanTold scanned) r (now (told .exit)) ⌝ }
 {
     match scanned {
@@ -32,7 +33,7 @@ pub extern "C" fn orgamish_scan(
     text: &[u8],
     states: &mut [u16],
     counts: &mut [u64],
-    told: &mut [u64; 5],
+    told: &mut [u64; TOLD],
 ) -> u16
     ensures { λ r. ⌜
         Passed (scanTells (wordsUnder (now (map .entry)) (now (dict .entry))) (now (table .entry)) (mapped (now (map .entry)) (now (text .entry))) (now (states .entry)) (now (counts .entry))) r (now (told .exit))

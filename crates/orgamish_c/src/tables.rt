@@ -4,6 +4,7 @@ ghost use Rattle.judging.specs.Under.{wordsUnder};
 ghost use Rattle.orgamish.specs.Calls.{buildTells, buildLeaves, widenTells, widenLeaves, narrowTells, narrowLeaves};
 ghost use Rattle.orgamish.specs.Answers.{buildTold};
 ghost use Rattle.orgamish_c.specs.Told.{Passed};
+use crate::told::TOLD;
 use crate::told::answer;
 use crate::told::refuse;
 use orgamish::BuildAnswer;
@@ -11,7 +12,7 @@ use orgamish::build;
 use orgamish::narrow as narrow_table;
 use orgamish::widen;
 
-fn pass(built: BuildAnswer, told: &mut [u64; 5]) -> u16
+fn pass(built: BuildAnswer, told: &mut [u64; TOLD]) -> u16
     ensures { λ r. ⌜ Passed (buildTold built) r (now (told .exit)) ⌝ }
 {
     match built {
@@ -29,7 +30,7 @@ pub extern "C" fn orgamish_build(
     map: &[u8],
     dict: &[u8],
     table: &mut [u16],
-    told: &mut [u64; 5],
+    told: &mut [u64; TOLD],
 ) -> u16
     ensures { λ r. ⌜
         Passed (buildTells (wordsUnder (now (map .entry)) (now (dict .entry))) (now (table .entry))) r (now (told .exit))
@@ -44,7 +45,7 @@ pub extern "C" fn orgamish_widen(
     dict: &[u8],
     narrow: &[u16],
     table: &mut [u16],
-    told: &mut [u64; 5],
+    told: &mut [u64; TOLD],
 ) -> u16
     ensures { λ r. ⌜
         Passed (widenTells (wordsUnder (now (map .entry)) (now (dict .entry))) (now (table .entry)) (now (narrow .entry))) r (now (told .exit))
@@ -59,7 +60,7 @@ pub extern "C" fn orgamish_narrow(
     dict: &[u8],
     table: &[u16],
     narrow: &mut [u16],
-    told: &mut [u64; 5],
+    told: &mut [u64; TOLD],
 ) -> u16
     ensures { λ r. ⌜
         Passed (narrowTells (wordsUnder (now (map .entry)) (now (dict .entry))) (now (table .entry)) (now (narrow .entry))) r (now (told .exit))

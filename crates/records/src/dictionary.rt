@@ -6,6 +6,7 @@ ghost use Rattle.letters.specs.Letters.{mapped};
 ghost use Rattle.records.specs.Run.{run, dictionary, pastWords};
 ghost use Rattle.records.specs.Told.{dictionaryTold, runTells};
 ghost use Rattle.records.specs.Classes.{Known, ReadAfter};
+use crate::repeats::ENTRIES;
 use crate::repeats::class_of;
 use crate::repeats::note;
 use crate::repeats::repeated;
@@ -25,7 +26,7 @@ pub enum Dictionary {
 fn record_after(
     map: &[u8],
     bytes: &[u8],
-    index: &mut [u16; 768],
+    index: &mut [u16; ENTRIES],
     at: usize,
     words: u16,
     letters: u16,
@@ -82,7 +83,7 @@ pub fn word_run(map: &[u8], bytes: &[u8], book: bool) -> Dictionary
     let mut words: u16 = 0;
     let mut letters: u16 = 0;
     let mut at = 0;
-    let mut index = [0u16; 768];
+    let mut index = [0u16; ENTRIES];
     loop {
         match record_after(map, bytes, &mut index, at, words, letters) {
             Record::End => {

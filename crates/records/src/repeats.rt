@@ -9,7 +9,7 @@ ghost use Rattle.letters.specs.Letters.{letter as letterOf, mapped, part};
 ghost use Rattle.letters.specs.Record.{recordAt, wordAt};
 ghost use Rattle.letters.specs.declared.record.Record.the-variants as found;
 ghost use Rattle.records.specs.Stored.{Holds};
-ghost use Rattle.records.specs.Classes.{classes, classOf, noted, Indexed};
+ghost use Rattle.records.specs.Classes.{classes, classOf, entries, noted, Indexed};
 use letters::letter;
 use letters::same_letters;
 
@@ -22,14 +22,16 @@ const OLDER: usize = 255;
 // and past this the offset of its record.
 const PLACES: usize = 511;
 
+pub const ENTRIES: usize = 768;
+
 fn wide(x: u16) -> usize
     ensures { λ r. ⌜ r ≡ x ⌝ }
 {
     x as usize
 }
 
-fn entry(index: &[u16; 768], i: usize) -> usize
-    requires { ⌜ i < 768 ⌝ }
+fn entry(index: &[u16; ENTRIES], i: usize) -> usize
+    requires { ⌜ i < entries ⌝ }
     ensures { λ r. ⌜ r ≡ getD (now (index .entry)) i 0 ⌝ }
 {
     wide(index[i])
@@ -73,7 +75,7 @@ fn same_word(map: &[u8], bytes: &[u8], p: usize, at: usize, n: usize) -> bool
 pub fn repeated(
     map: &[u8],
     bytes: &[u8],
-    index: &[u16; 768],
+    index: &[u16; ENTRIES],
     class: usize,
     at: usize,
     n: usize,
@@ -96,7 +98,7 @@ pub fn repeated(
 }
 
 // The q-th word, of the class given, whose record stands at the offset, joins the index.
-pub fn note(index: &mut [u16; 768], class: usize, q: u16, at: usize)
+pub fn note(index: &mut [u16; ENTRIES], class: usize, q: u16, at: usize)
     requires { ⌜ (class < classes) × (0 < q) × (q ≤ mostWords) × (at < 65536) ⌝ }
     ensures { λ _. ⌜ now (index .exit) ≡ noted (now (index .entry)) class q at ⌝ }
 {

@@ -18,6 +18,7 @@ pub use layout::MOST_NUMBERS;
 pub use layout::NONE;
 pub use layout::add_row;
 pub use layout::border;
+pub use layout::chain_length;
 pub use layout::depth;
 pub use layout::first_child;
 pub use layout::letter;
