@@ -11,6 +11,20 @@ use crate::ffi::{self, Told};
 use crate::limits::{MAP_LENGTH, TOLD};
 use crate::{Refusal, Refused};
 
+/// A call of the archive: the slices that are read, those that are written, the numbers.
+macro_rules! call {
+    ($told:ident = $name:ident($($read:ident),*; $($written:ident),*; $($number:ident),*)) => {
+        unsafe {
+            ffi::$name(
+                $($read.as_ptr(), $read.len(),)*
+                $($written.as_mut_ptr(), $written.len(),)*
+                $($number,)*
+                $told,
+            )
+        }
+    };
+}
+
 /// What `build`, `widen` and `narrow` tell.
 #[derive(Clone, Copy, Debug, PartialEq, Eq)]
 pub struct Built {
@@ -49,35 +63,19 @@ pub fn identity() -> [u8; MAP_LENGTH] {
 
 /// Writes the dictionary's table, eight numbers a state.
 pub fn build(map: &[u8], dict: &[u8], table: &mut [u16]) -> Result<Built, Refused> {
-    let told = ask(of_word, |told| unsafe {
-        ffi::orgamish_build(
-            map.as_ptr(),
-            map.len(),
-            dict.as_ptr(),
-            dict.len(),
-            table.as_mut_ptr(),
-            table.len(),
-            told,
-        )
-    })?;
+    let told = ask(
+        of_word,
+        |told| call!(told = orgamish_build(map, dict; table; )),
+    )?;
     Ok(built(told))
 }
 
 /// Writes a narrow table, of seven numbers a state, with eight.
 pub fn widen(map: &[u8], dict: &[u8], narrow: &[u16], table: &mut [u16]) -> Result<Built, Refused> {
-    let told = ask(of_word, |told| unsafe {
-        ffi::orgamish_widen(
-            map.as_ptr(),
-            map.len(),
-            dict.as_ptr(),
-            dict.len(),
-            narrow.as_ptr(),
-            narrow.len(),
-            table.as_mut_ptr(),
-            table.len(),
-            told,
-        )
-    })?;
+    let told = ask(
+        of_word,
+        |told| call!(told = orgamish_widen(map, dict, narrow; table; )),
+    )?;
     Ok(built(told))
 }
 
@@ -88,19 +86,10 @@ pub fn narrow(
     table: &[u16],
     narrow: &mut [u16],
 ) -> Result<Built, Refused> {
-    let told = ask(of_word, |told| unsafe {
-        ffi::orgamish_narrow(
-            map.as_ptr(),
-            map.len(),
-            dict.as_ptr(),
-            dict.len(),
-            table.as_ptr(),
-            table.len(),
-            narrow.as_mut_ptr(),
-            narrow.len(),
-            told,
-        )
-    })?;
+    let told = ask(
+        of_word,
+        |told| call!(told = orgamish_narrow(map, dict, table; narrow; )),
+    )?;
     Ok(built(told))
 }
 
@@ -113,23 +102,10 @@ pub fn scan(
     states: &mut [u16],
     counts: &mut [u64],
 ) -> Result<Scanned, Refused> {
-    let told = ask(of_word, |told| unsafe {
-        ffi::orgamish_scan(
-            map.as_ptr(),
-            map.len(),
-            dict.as_ptr(),
-            dict.len(),
-            table.as_ptr(),
-            table.len(),
-            text.as_ptr(),
-            text.len(),
-            states.as_mut_ptr(),
-            states.len(),
-            counts.as_mut_ptr(),
-            counts.len(),
-            told,
-        )
-    })?;
+    let told = ask(
+        of_word,
+        |told| call!(told = orgamish_scan(map, dict, table, text; states, counts; )),
+    )?;
     let [accepted, farthest, count, probes] = told;
     Ok(Scanned {
         accepted: accepted == 1,
@@ -149,25 +125,10 @@ pub fn first(
     counts: &[u64],
     reading: &mut [u16],
 ) -> Result<usize, Refused> {
-    let told = ask(of_word, |told| unsafe {
-        ffi::orgamish_first(
-            map.as_ptr(),
-            map.len(),
-            dict.as_ptr(),
-            dict.len(),
-            table.as_ptr(),
-            table.len(),
-            text.as_ptr(),
-            text.len(),
-            states.as_ptr(),
-            states.len(),
-            counts.as_ptr(),
-            counts.len(),
-            reading.as_mut_ptr(),
-            reading.len(),
-            told,
-        )
-    })?;
+    let told = ask(
+        of_word,
+        |told| call!(told = orgamish_first(map, dict, table, text, states, counts; reading; )),
+    )?;
     Ok(told[1] as usize)
 }
 
@@ -184,26 +145,10 @@ pub fn next(
     reading: &mut [u16],
     given: usize,
 ) -> Result<Option<usize>, Refused> {
-    let told = ask(of_word, |told| unsafe {
-        ffi::orgamish_next(
-            map.as_ptr(),
-            map.len(),
-            dict.as_ptr(),
-            dict.len(),
-            table.as_ptr(),
-            table.len(),
-            text.as_ptr(),
-            text.len(),
-            states.as_ptr(),
-            states.len(),
-            counts.as_ptr(),
-            counts.len(),
-            reading.as_mut_ptr(),
-            reading.len(),
-            given,
-            told,
-        )
-    })?;
+    let told = ask(
+        of_word,
+        |told| call!(told = orgamish_next(map, dict, table, text, states, counts; reading; given)),
+    )?;
     let [readings, words, ..] = told;
     Ok((readings == 1).then_some(words as usize))
 }
@@ -221,26 +166,10 @@ pub fn jump(
     reading: &mut [u16],
     n: u64,
 ) -> Result<usize, Refused> {
-    let told = ask(of_word, |told| unsafe {
-        ffi::orgamish_jump(
-            map.as_ptr(),
-            map.len(),
-            dict.as_ptr(),
-            dict.len(),
-            table.as_ptr(),
-            table.len(),
-            text.as_ptr(),
-            text.len(),
-            states.as_ptr(),
-            states.len(),
-            counts.as_ptr(),
-            counts.len(),
-            reading.as_mut_ptr(),
-            reading.len(),
-            n,
-            told,
-        )
-    })?;
+    let told = ask(
+        of_word,
+        |told| call!(told = orgamish_jump(map, dict, table, text, states, counts; reading; n)),
+    )?;
     Ok(told[1] as usize)
 }
 
@@ -256,34 +185,19 @@ pub fn place(
     reading: &[u16],
     given: usize,
 ) -> Result<u64, Refused> {
-    let told = ask(of_word, |told| unsafe {
-        ffi::orgamish_place(
-            map.as_ptr(),
-            map.len(),
-            dict.as_ptr(),
-            dict.len(),
-            table.as_ptr(),
-            table.len(),
-            text.as_ptr(),
-            text.len(),
-            states.as_ptr(),
-            states.len(),
-            counts.as_ptr(),
-            counts.len(),
-            reading.as_ptr(),
-            reading.len(),
-            given,
-            told,
-        )
-    })?;
+    let told = ask(
+        of_word,
+        |told| call!(told = orgamish_place(map, dict, table, text, states, counts, reading; ; given)),
+    )?;
     Ok(told[0])
 }
 
 /// Tells how many words and blocks a book has.
 pub fn check_book(map: &[u8], book: &[u8]) -> Result<Contents, Refused> {
-    let told = ask(of_record, |told| unsafe {
-        ffi::orgamish_check_book(map.as_ptr(), map.len(), book.as_ptr(), book.len(), told)
-    })?;
+    let told = ask(
+        of_record,
+        |told| call!(told = orgamish_check_book(map, book; ; )),
+    )?;
     let [words, blocks, ..] = told;
     Ok(Contents {
         words: words as usize,
@@ -299,18 +213,10 @@ pub fn block<'book>(map: &[u8], book: &'book [u8], n: usize) -> Option<&'book [u
 
 /// Where the text of block `n` stands in the book.
 pub(crate) fn block_range(map: &[u8], book: &[u8], n: usize) -> Option<Range<usize>> {
-    let mut told = [0; TOLD];
-    unsafe {
-        ffi::orgamish_block(
-            map.as_ptr(),
-            map.len(),
-            book.as_ptr(),
-            book.len(),
-            n,
-            &mut told,
-        )
-    };
-    let [_, offset, length, ..] = told.map(|number| number as usize);
+    let mut numbers = [0; TOLD];
+    let told = &mut numbers;
+    call!(told = orgamish_block(map, book;; n));
+    let [_, offset, length, ..] = numbers.map(|number| number as usize);
     // a block's mark stands before its text, so offset 0 tells that there is none
     (offset != 0).then_some(offset..offset + length)
 }
