@@ -15,8 +15,8 @@ use Rattle.meaning.proofs.Lists.{Snoc, nothing, last, snoc_view, snoc-length}
 use Rattle.meaning.proofs.Find.{find_some}
 use Rattle.meaning.proofs.States.{Bounded, trie_front}
 use Rattle.tree.specs.Layout.{field_at}
-use Rattle.tree.specs.Tree.{Tree, Blank, border_of, link_of, chain_of}
-use Rattle.tree.specs.Steps.{Stepped, Opening}
+use Rattle.tree.specs.Tree.{border_of, link_of, chain_of}
+use Rattle.tree.specs.Insertion.{Growing}
 use Rattle.tree.specs.Filling.{Known, SameTree, Completed}
 use Rattle.automaton.specs.Queue.{Settled, unsettled, depth_in, Queued, Taking, Taken}
 use Rattle.automaton.proofs.Known.{same_refl, same_trans}
@@ -55,14 +55,14 @@ parent {S} σ s l h = go (snoc_view (word S s)) refl
         }
 
 -- the first `head` states of the queue are taken out: their children have their borders
-pub record Going (X S : Words) (t₀ t q : List ℕ) (head tail : ℕ) : Type 0 where
+pub record Going (X S : Words) (t₀ t index q : List ℕ) (head tail : ℕ) : Type 0 where
   pub same : SameTree (length S) t₀ t
-  pub queued : Queued X S t q tail
+  pub queued : Queued X S t index q tail
   pub low : head ≤ tail
   pub done : (i : ℕ) → i < head → (x c : ℕ) → find S (snoc (word S (get_or q i 0)) x) ≡ some c → Settled t c
   pub limit : head < tail → (i : ℕ) → i < tail → depth_in S q i ≤ suc (depth_in S q head)
 
-module _ {X S : Words} {t₀ t q : List ℕ} {head tail : ℕ} (φ : Going X S t₀ t q head tail) where
+module _ {X S : Words} {t₀ t index q : List ℕ} {head tail : ℕ} (φ : Going X S t₀ t index q head tail) where
   -- where every state of fewer than d letters that is in the queue is taken out, every state of at most d letters is in it
   reached : (d : ℕ) → ((i : ℕ) → i < tail → depth_in S q i < d → i < head) → (k : ℕ) → k ≤ d → (s : ℕ) → s < length S → length (word S s) ≡ k
       → (s ≡ 0) ⊎ Settled t s
@@ -82,10 +82,9 @@ module _ {X S : Words} {t₀ t q : List ℕ} {head tail : ℕ} (φ : Going X S t
   known_of s l (inr h) = φ.queued.known s l h
 
   -- so the state at the head can be taken out, ..
-  pub takes : head < tail → {p : ℕ} → p ≡ get_or q head 0 → {steps : List ℕ} → Stepped S steps → Taking X S t steps q tail p
-  takes h {p} e σ = rw e (record {
+  pub takes : head < tail → {p : ℕ} → p ≡ get_or q head 0 → Taking X S t index q tail p
+  takes h {p} e = rw e (record {
     queued = φ.queued;
-    stepped = σ;
     inside = φ.queued.entries head h;
     known = λ v l m. known_of v l (reached (depth_in S q head) out (length (word S v)) m v l refl);
     limit = φ.limit h;
@@ -113,9 +112,9 @@ module _ {X S : Words} {t₀ t q : List ℕ} {head tail : ℕ} (φ : Going X S t
       all : (s : ℕ) → s < length S → Known X S t s
       all s l = known_of s l (reached (length (word S s)) (λ i m k. omega arith) (length (word S s)) (omega arith) s l refl)
 
-  pub goes : head < tail → {p r : ℕ} {t' steps q' : List ℕ} → p ≡ get_or q head 0 → Taken X S t t' steps q q' tail r p
-      → Going X S t₀ t' q' (head + 1) r
-  goes h {p} {r} {t'} {steps} {q'} e k = record {
+  pub goes : head < tail → {p r : ℕ} {t' q' : List ℕ} → p ≡ get_or q head 0 → Taken X S t t' index q q' tail r p
+      → Going X S t₀ t' index q' (head + 1) r
+  goes h {p} {r} {t'} {q'} e k = record {
     same = same_trans φ.same k.longer.grown.same;
     queued = k.longer.taking.queued;
     low = omega (arith, k.longer.more);
@@ -145,22 +144,24 @@ module _ {X S : Words} {t₀ t q : List ℕ} {head tail : ℕ} (φ : Going X S t
           )
 
 -- the queue of the root alone
-pub begins : {X S : Words} {t q : List ℕ} → Tree X S t → Blank S t → most_states ≤ length q → get_or q 0 0 ≡ 0 → Going X S t t q 0 1
-begins {X} {S} {t} {q} τ blank long e = record {
+pub begins : {X S : Words} {t index q : List ℕ} {n : ℕ} → Growing X S t index n → most_states ≤ length q → get_or q 0 0 ≡ 0
+    → Going X S t t index q 0 1
+begins {X} {S} {t} {index} {q} γ long e = record {
   same = same_refl t;
   queued = record {
-    tree = τ;
+    tree = γ.tree;
+    indexed = γ.indexed;
     long = long;
     root = record {
-      border = blank.borders 0 inside ∙ sym (ap (border_of S) (root_word τ.states));
-      link = blank.links 0 inside ∙ sym (ap (link_of X S) (root_word τ.states));
-      chain = blank.chains 0 inside ∙ sym (ap (chain_of X) (root_word τ.states));
+      border = γ.blank.borders 0 inside ∙ sym (ap (border_of S) (root_word γ.tree.states));
+      link = γ.blank.links 0 inside ∙ sym (ap (link_of X S) (root_word γ.tree.states));
+      chain = γ.blank.chains 0 inside ∙ sym (ap (chain_of X) (root_word γ.tree.states));
     };
-    known = λ s l h. absurd (h (blank.borders s l));
+    known = λ s l h. absurd (h (γ.blank.borders s l));
     entries = λ i l. subst (λ (s : ℕ). s < length S) (sym (first i l)) inside;
     seen = seen;
     rising = λ i j l h. rw (first i (omega arith), first j h) (omega arith);
-    count = omega (arith, inside, unsettled_all t (length S - 1) (λ s l h. blank.borders s (omega (arith, inside))));
+    count = omega (arith, inside, unsettled_all t (length S - 1) (λ s l h. γ.blank.borders s (omega (arith, inside))));
   };
   low = omega arith;
   done = λ i l. absurd (omega arith);
@@ -168,22 +169,14 @@ begins {X} {S} {t} {q} τ blank long e = record {
 }
   where
     inside : 0 < length S
-    inside = root_inside τ.states
+    inside = root_inside γ.tree.states
 
     first : (i : ℕ) → i < 1 → get_or q i 0 ≡ 0
     first i l = let z : i ≡ 0 = omega arith in ap (λ (j : ℕ). get_or q j 0) z ∙ e
 
     seen : (s : ℕ) → s < length S → (s ≡ 0) ⊎ Settled t s → (i : ℕ) × (i < 1) × (get_or q i 0 ≡ s)
     seen s l (inl z) = (0, omega arith, e ∙ sym z)
-    seen s l (inr h) = absurd (h (blank.borders s l))
+    seen s l (inr h) = absurd (h (γ.blank.borders s l))
 
-pub queue_fits : {X S : Words} {t q : List ℕ} {tail : ℕ} → Queued X S t q tail → tail ≤ most_states
+pub queue_fits : {X S : Words} {t index q : List ℕ} {tail : ℕ} → Queued X S t index q tail → tail ≤ most_states
 queue_fits κ = omega (arith, κ.count, κ.tree.states.few)
-
--- the border of p, which is taken out, is right
-pub opens : {X S : Words} {t steps q : List ℕ} {tail p : ℕ} → Taking X S t steps q tail p → Opening X S t steps p
-opens {p = p} τ = record {
-  at = record { tree = τ.queued.tree; inside = τ.inside };
-  border = (τ.known p τ.inside (omega arith)).border;
-  stepped = τ.stepped;
-}

@@ -11,6 +11,7 @@ use Rattle.meaning.specs.Table.{width, narrow_width, narrow_row, row, table, nar
 use Rattle.meaning.proofs.Rows.{rows_at, rows_take, table-length, narrow_length, narrow_field}
 use Rattle.tree.specs.declared.layout.Form.TheVariants.{Wide, Narrow}
 use Rattle.tree.specs.Layout.{field_at, Narrowed}
+use Rattle.tree.specs.Insertion.{Growing}
 use Rattle.tree.specs.Filling.{Completed}
 use Rattle.automaton.specs.Building.{Planted, Builds}
 use Rattle.tree.proofs.Whole.{whole_rows}
@@ -26,7 +27,10 @@ over_by vs l l' long front past = sym (take-append-drop (length vs) l') ∙ ap�
         (length-drop (length vs) l' ∙ ap (λ (k : ℕ). k - length vs) long ∙ sym (length-drop (length vs) l))
         (λ i h. get_or-drop (length vs) l' i 0 ∙ past (length vs + i) (omega arith) ∙ sym (get_or-drop (length vs) l i 0))
 
-module _ {X : Words} {t t₁ index ends : List ℕ} {n : ℕ} (π : Planted X t t₁ index ends n) where
+module _ {X : Words} {t t₁ index : List ℕ} {n : ℕ} (π : Planted X t t₁ index n) where
+  pub all_planted : Growing X (states X) t₁ index (length (states X))
+  all_planted = rw (← π.growing.count) π.growing
+
   pub finished : length t₁ ≡ length t → {t₂ : List ℕ} → length t₂ ≡ length t₁ → Completed X (states X) t₁ t₂ → {r : ℕ} → r ≡ longest_chain X
       → Builds Wide X t t₂ n r
   finished long {t₂} long₂ κ e = record {

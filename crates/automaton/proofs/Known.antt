@@ -80,8 +80,8 @@ module _ {X S : Words} {t : List ℕ} (τ : Tree X S t) {c : ℕ} (inside : c < 
   chain-set : field_at three c chain_field ≡ k
   chain-set = set_here two c chain_field k (omega arith) (row_stays one c link_field l c (row_stays t c border_field b c here))
 
-  pub other-set : (s j : ℕ) → j < width → (s ≡ c → ⊥) → field_at three s j ≡ field_at t s j
-  other-set s j h d =
+  pub other_set : (s j : ℕ) → j < width → (s ≡ c → ⊥) → field_at three s j ≡ field_at t s j
+  other_set s j h d =
       set_other_row two c chain_field k s j (omega arith) h d
       ∙ set_other_row one c link_field l s j (omega arith) h d
       ∙ set_other_row t c border_field b s j (omega arith) h d
@@ -102,7 +102,7 @@ module _ {X S : Words} {t : List ℕ} (τ : Tree X S t) {c : ℕ} (inside : c < 
         go : (s : ℕ) → Known X S t s → Dec (s ≡ c) → Known X S three s
         go s κ (yes e) = rw e known-set
         go s κ (no d) = record {
-          border = other-set s border_field (omega arith) d ∙ κ.border;
-          link = other-set s link_field (omega arith) d ∙ κ.link;
-          chain = other-set s chain_field (omega arith) d ∙ κ.chain;
+          border = other_set s border_field (omega arith) d ∙ κ.border;
+          link = other_set s link_field (omega arith) d ∙ κ.link;
+          chain = other_set s chain_field (omega arith) d ∙ κ.chain;
         }

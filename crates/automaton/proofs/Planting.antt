@@ -1,20 +1,19 @@
 -- The words of a dictionary put into the tree, record by record.
 use mathlib.Core.Path.{◌≡◌, refl, sym, ap, ◌∙◌, subst}
-use mathlib.Core.Option.{none, some}
+use mathlib.Core.Option.{none}
 use mathlib.Core.List.{List, [], ◌∷◌}
 use Prim.Native.Nat.{ℕ, zero, suc, ◌+◌, ◌*◌, ◌-◌, ◌≤◌, ◌<◌}
-use native.Mathlib.Decide.{ℕ_discrete}
 use native.Mathlib.Numerals.{add-one}
 use native.Mathlib.Omega.{arith}
-use lib.ListN.{length, get_or, take, drop, set, length-set, take-append-drop}
-use lib.Seq.{get_or-set_same, get_or-set_other, sets, length-sets, length-take-le, take-suc, get_or-take, take_all}
-use Rattle.meaning.specs.Numbers.{most_states, most_words, letter_values, absent}
+use lib.ListN.{length, get_or, take, drop, take-append-drop}
+use lib.Seq.{sets, length-sets, length-take-le, take-suc, get_or-take, take_all}
+use Rattle.meaning.specs.Numbers.{most_states, absent}
 use Rattle.meaning.specs.Words.{Word, Words, snoc, find, word, total}
 use Rattle.meaning.specs.Automaton.{prefixes, add_all, states}
 use Rattle.meaning.specs.Table.{stored, first_child, last_letter, next_sibling, width}
 use Rattle.meaning.specs.Plain.{Allowed}
 use Rattle.meaning.proofs.Find.{none_unless, find_some}
-use Rattle.meaning.proofs.States.{extends_find, extends_length, add_all_extends, states-length, states_snoc, total-append, allowed_bounded, allowed_words}
+use Rattle.meaning.proofs.States.{extends_length, add_all_extends, states-length, states_snoc, total-append, allowed_bounded, allowed_words}
 use Rattle.meaning.proofs.Children.{child_from_no}
 use Rattle.letters.specs.Letters.{mapped, part}
 use Rattle.letters.specs.Record.{record_at, word_len}
@@ -22,9 +21,11 @@ use Rattle.records.specs.Stored.{place, Holds}
 use Rattle.records.proofs.Accepted.{accepted, word_stands, place_next}
 use Rattle.tree.specs.Layout.{field_at, HasRow, new_row}
 use Rattle.tree.specs.Tree.{Column}
+use Rattle.tree.specs.Index.{index_length}
 use Rattle.tree.specs.Insertion.{Growing, Insertable, Inserted}
 use Rattle.automaton.specs.Building.{Accepted, Planted}
 use Rattle.tree.proofs.Cells.{row_here, row_past}
+use Rattle.tree.proofs.Blocks.{no_owners}
 use Rattle.tree.proofs.Climb.{root_inside}
 
 -- the empty dictionary
@@ -45,7 +46,7 @@ root_column t j f e zero l = e
 root_column t j f e (suc s) l = absurd (omega arith)
 
 pub rooted : (t : List ℕ) {t' index : List ℕ} → HasRow t 0 → t' ≡ sets t (width * 0) (new_row absent absent 0)
-    → ((i : ℕ) → i < letter_values → get_or index i 0 ≡ absent) → Growing [] (states []) t' index 1
+    → ((i : ℕ) → i < index_length → get_or index i 0 ≡ absent) → Growing [] (states []) t' index 1
 rooted t {t'} {index} room e empty = record {
   tree = record {
     states = allowed_bounded [] no_words;
@@ -62,7 +63,7 @@ rooted t {t'} {index} room e empty = record {
     links = column 6 (λ u. absent) (omega arith) refl;
     chains = column 7 (λ u. 0) (omega arith) refl;
   };
-  indexed = record { cells = empty };
+  indexed = no_owners (allowed_bounded [] no_words) (λ a l. empty (0 + a) (omega arith)) (λ i l m. empty i m);
   count = refl;
 }
   where
@@ -74,22 +75,15 @@ pub past_root : (t : List ℕ) {t' : List ℕ} → HasRow t 0 → t' ≡ sets t 
     → (i : ℕ) → width ≤ i → get_or t' i 0 ≡ get_or t i 0
 past_root t room e i l = ap (λ (l : List ℕ). get_or l i 0) e ∙ row_past t 0 (new_row absent absent 0) refl room i (omega arith)
 
--- the state of a word
-pub state_small : {X S : Words} {w : Word} {t t' index : List ℕ} {p n : ℕ} → Inserted X S w t t' index p n → p < most_states
-state_small {S = S} {w} {p = p} s =
-    omega (arith, (find_some (add_all S (prefixes [] w)) w p s.here).inside, s.growing.tree.states.few)
-
 -- the first k words are in the tree, and the record of the next begins at `at`
-pub record Planting (X : Words) (t₀ t index ends : List ℕ) (k at n : ℕ) : Type 0 where
-  pub long : most_words ≤ length ends
-  pub known : (j : ℕ) → j < k → find (states (take k X)) (word X j) ≡ some (get_or ends j 0)
+pub record Planting (X : Words) (t₀ t index : List ℕ) (k at n : ℕ) : Type 0 where
   pub low : k ≤ length X
   pub place_is : at ≡ place X k
   pub growing : Growing (take k X) (states (take k X)) t index n
   pub past : (i : ℕ) → width * n ≤ i → get_or t i 0 ≡ get_or t₀ i 0
 
-pub planting : (X : Words) {t index ends : List ℕ} → most_words ≤ length ends → Growing [] (states []) t index 1 → Planting X t t index ends 0 0 1
-planting X long γ = record { long = long; known = λ j l. absurd (omega arith); low = omega arith; place_is = refl; growing = γ; past = λ i l. refl }
+pub planting : (X : Words) {t index : List ℕ} → Growing [] (states []) t index 1 → Planting X t t index 0 0 1
+planting X γ = record { low = omega arith; place_is = refl; growing = γ; past = λ i l. refl }
 
 -- the states of the first j words are few
 few_states : (X : Words) → Allowed X → (j : ℕ) → length (states (take j X)) ≤ most_states
@@ -102,8 +96,8 @@ few_states X d j =
       d.storable.small,
     )
 
-module _ {X : Words} {m b : List ℕ} {words : ℕ} (α : Accepted X m b words) {t₀ t index ends : List ℕ} {k at n : ℕ}
-    (φ : Planting X t₀ t index ends k at n) (more : k < length X) where
+module _ {X : Words} {m b : List ℕ} {words : ℕ} (α : Accepted X m b words) {t₀ t index : List ℕ} {k at n : ℕ}
+    (φ : Planting X t₀ t index k at n) (more : k < length X) where
   here : Holds m b at (word X k)
   here = subst (λ (p : ℕ). Holds m b p (word X k)) (sym φ.place_is) (word_stands (accepted _ m b α.runs) k more)
 
@@ -123,7 +117,7 @@ module _ {X : Words} {m b : List ℕ} {words : ℕ} (α : Accepted X m b words) 
       let same : word X i ≡ word X k = sym (get_or-take k X i [] l) ∙ f.reads in
       omega (arith, α.allowed.storable.dictionary.distinct i k (omega arith) more same))
 
-  module _ {start end len : ℕ} (begins : start ≡ at + 3) (sized : len ≡ word_len (record_at b at)) (stops : end ≡ start + len) where
+  module _ {start end len : ℕ} (begins : start ≡ at + 3) (sized : len ≡ word_len (record_at b at)) (ends : end ≡ start + len) where
     long : len ≡ length (word X k)
     long = sized ∙ ap word_len here.record_here
 
@@ -151,12 +145,10 @@ module _ {X : Words} {m b : List ℕ} {words : ℕ} (α : Accepted X m b words) 
       few = omega (arith, ap length next_states, few_states X α.allowed (suc k));
     })
 
-    pub planted_on : {t' index' : List ℕ} {p n' : ℕ}
-        → Inserted (take k X) (states (take k X)) (mapped m (take (end - start) (drop start b))) t t' index' p n'
-        → Planting X t₀ t' index' (set ends k p) (k + 1) end n'
-    planted_on {t'} {index'} {p} {n'} s = record {
-      long = omega (arith, length-set ends k p, φ.long);
-      known = rw (add-one k) (λ j l. rw next_states (found j l (ℕ_discrete j k)));
+    pub planted_on : {t' index' : List ℕ} {n' : ℕ}
+        → Inserted (take k X) (states (take k X)) (mapped m (take (end - start) (drop start b))) t t' index' n'
+        → Planting X t₀ t' index' (k + 1) end n'
+    planted_on {t'} {index'} {n'} s = record {
       low = omega arith;
       place_is = rw (add-one k) (omega (arith, place_next X k more, φ.place_is, long));
       growing = rw (add-one k) (rw (next_states, next_words) grown);
@@ -165,15 +157,6 @@ module _ {X : Words} {m b : List ℕ} {words : ℕ} (α : Accepted X m b words) 
       where
         grown : Growing (snoc (take k X) (word X k)) (add_all (states (take k X)) (prefixes [] (word X k))) t' index' n'
         grown = subst (λ (w : Word). Growing (snoc (take k X) w) (add_all (states (take k X)) (prefixes [] w)) t' index' n') letters s.growing
-
-        found : (j : ℕ) → j < suc k → Dec (j ≡ k)
-            → find (add_all (states (take k X)) (prefixes [] (word X k))) (word X j) ≡ some (get_or (set ends k p) j 0)
-        found j l (yes e) =
-            rw (e, get_or-set_same ends k p 0 (omega (arith, φ.long, more, α.allowed.storable.few)))
-            (subst (λ (w : Word). find (add_all (states (take k X)) (prefixes [] w)) w ≡ some p) letters s.here)
-        found j l (no d) =
-            rw (get_or-set_other ends k j p 0 d)
-            (extends_find (add_all_extends (states (take k X)) (prefixes [] (word X k))) (word X j) _ (φ.known j (omega arith)))
 
         fewer : n ≤ n'
         fewer =
@@ -185,12 +168,11 @@ module _ {X : Words} {m b : List ℕ} {words : ℕ} (α : Accepted X m b words) 
             )
 
 -- all words are in the tree
-pub planted : {X : Words} {m b : List ℕ} {words : ℕ} → Accepted X m b words → {t₀ t₁ t index ends : List ℕ} {k at n : ℕ}
-    → Planting X t₁ t index ends k at n → words ≤ k → ((i : ℕ) → width ≤ i → get_or t₁ i 0 ≡ get_or t₀ i 0) → Planted X t₀ t index ends n
+pub planted : {X : Words} {m b : List ℕ} {words : ℕ} → Accepted X m b words → {t₀ t₁ t index : List ℕ} {k at n : ℕ}
+    → Planting X t₁ t index k at n → words ≤ k → ((i : ℕ) → width ≤ i → get_or t₁ i 0 ≡ get_or t₀ i 0) → Planted X t₀ t index n
 planted {X} α {k = k} φ h before =
     let all : take k X ≡ X = take_all k X (omega (arith, α.count)) in
     record {
-      ends_known = record { is = λ j l. rw all at (φ.known j (omega (arith, α.count))) };
       growing = rw all at φ.growing;
       past = λ i l. φ.past i l ∙ before i (omega (arith, φ.growing.count, root_inside φ.growing.tree.states));
     }

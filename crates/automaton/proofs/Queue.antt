@@ -26,7 +26,7 @@ use Rattle.tree.specs.Tree.{link_of, chain_of}
 use Rattle.tree.specs.Filling.{Bordered, LinkedAt, CountedAt, Known, Grown}
 use Rattle.automaton.specs.Queue.{Settled, unsettled, depth_in, Taking, Settling, Longer, Settles, Taken}
 use Rattle.tree.proofs.Walk.{Child, state_row, state_small, more, no_more, left, left_same, left_less}
-use Rattle.automaton.proofs.Known.{same_tree, grown_refl, grown_trans, border-set, other-set, known-set, grown-set}
+use Rattle.automaton.proofs.Known.{same_tree, grown_refl, grown_trans, border-set, other_set, known-set, grown-set}
 use Rattle.tree.proofs.Climb.{root_word, root_inside}
 
 -- the number of states without a border
@@ -50,19 +50,19 @@ unsettled_less t t' (suc m) c l h old new other = go (ℕ_discrete (suc m) c) (�
         rw (before, same, ne_eqb (field_at t' (suc m) border_field) absent after) (omega arith)
     go (no d) more = rw (other (suc m) d) (omega (arith, more (omega arith)))
 
-pub bordered : {X S : Words} {t steps q : List ℕ} {tail p : ℕ} → Taking X S t steps q tail p → Bordered X S t steps p
+pub bordered : {X S : Words} {t index q : List ℕ} {tail p : ℕ} → Taking X S t index q tail p → Bordered X S t index p
 bordered τ = record {
   tree = τ.queued.tree;
-  stepped = τ.stepped;
+  indexed = τ.queued.indexed;
   inside = τ.inside;
   borders = λ v l d. (τ.known v l d).border;
 }
 
-longer_refl : {X S : Words} {t steps q : List ℕ} {tail p : ℕ} → Taking X S t steps q tail p → Longer X S t t steps q q tail tail p
+longer_refl : {X S : Words} {t index q : List ℕ} {tail p : ℕ} → Taking X S t index q tail p → Longer X S t t index q q tail tail p
 longer_refl {t = t} τ = record { taking = τ; grown = grown_refl t; kept = λ s k. k; more = omega arith; queue = λ i l. refl }
 
 -- a child of p
-module _ {X S : Words} {t steps q : List ℕ} {tail p c : ℕ} (σ : Settling X S t steps q tail p c) where
+module _ {X S : Words} {t index q : List ℕ} {tail p c : ℕ} (σ : Settling X S t index q tail p c) where
   pub child_inside : c < length S
   child_inside = (find_some S _ c σ.child).inside
 
@@ -88,7 +88,7 @@ module _ {X S : Words} {t steps q : List ℕ} {tail p c : ℕ} (σ : Settling X 
   child_byte = rw child_letter (σ.taking.queued.tree.states.bytes (word S p) σ.letter c σ.child)
 
   -- it has its border already
-  pub passes : Settled t c → Settles X S t t steps q q tail tail p c
+  pub passes : Settled t c → Settles X S t t index q q tail tail p c
   passes h = record { longer = longer_refl σ.taking; settled = h }
 
   -- its border is b, ..
@@ -138,7 +138,7 @@ module _ {X S : Words} {t steps q : List ℕ} {tail p c : ℕ} (σ : Settling X 
       t' = set_field (set_field (set_field t c border_field b) c link_field l) c chain_field k
 
       other : (s : ℕ) → (s ≡ c → ⊥) → field_at t' s border_field ≡ field_at t s border_field
-      other s d = other-set σ.taking.queued.tree child_inside b l k s border_field (omega arith) d
+      other s d = other_set σ.taking.queued.tree child_inside b l k s border_field (omega arith) d
 
       settled : Settled t' c
       settled e = omega (arith, border-set σ.taking.queued.tree child_inside b l k, border_small)
@@ -215,12 +215,13 @@ module _ {X S : Words} {t steps q : List ℕ} {tail p c : ℕ} (σ : Settling X 
                 = ap (λ (s : ℕ). length (word S s)) (ap (λ (k : ℕ). get_or q' k 0) e ∙ at_end_lem) ∙ child_deeper in
                 rw end (limit i (omega arith))
 
-        pub settles : Settles X S t t' steps q q' tail (tail + 1) p c
+        pub settles : Settles X S t t' index q q' tail (tail + 1) p c
         settles = record {
           longer = record {
             taking = record {
               queued = record {
                 tree = same_tree grown.same σ.taking.queued.tree;
+                indexed = σ.taking.queued.indexed;
                 long = omega (arith, length-set q tail c, σ.taking.queued.long);
                 root = grown.kept 0 (root_inside σ.taking.queued.tree.states) σ.taking.queued.root;
                 known = known;
@@ -229,7 +230,6 @@ module _ {X S : Words} {t steps q : List ℕ} {tail p c : ℕ} (σ : Settling X 
                 rising = rising;
                 count = omega (arith, fewer, σ.taking.queued.count);
               };
-              stepped = σ.taking.stepped;
               inside = σ.taking.inside;
               known = λ v l d. grown.kept v l (σ.taking.known v l d);
               limit = limit;
@@ -243,14 +243,14 @@ module _ {X S : Words} {t steps q : List ℕ} {tail p c : ℕ} (σ : Settling X 
         }
 
 -- the walk along the children of p, while they join the queue: those by letters below b have
-pub record Filling (X S : Words) (t₀ t steps q₀ q : List ℕ) (end tail p c : ℕ) : Type 0 where
-  pub longer : Longer X S t₀ t steps q₀ q end tail p
+pub record Filling (X S : Words) (t₀ t index q₀ q : List ℕ) (end tail p c : ℕ) : Type 0 where
+  pub longer : Longer X S t₀ t index q₀ q end tail p
   pub b : ℕ
   pub is : c ≡ stored (child_from S (word S p) b)
   pub done : (x d : ℕ) → x < b → find S (snoc (word S p) x) ≡ some d → Settled t d
 
-pub fills : {X S : Words} {t steps q : List ℕ} {tail p c : ℕ} → Taking X S t steps q tail p → c ≡ stored (child_from S (word S p) 0)
-    → Filling X S t t steps q q tail tail p c
+pub fills : {X S : Words} {t index q : List ℕ} {tail p c : ℕ} → Taking X S t index q tail p → c ≡ stored (child_from S (word S p) 0)
+    → Filling X S t t index q q tail tail p c
 fills τ e = record {
   longer = longer_refl τ;
   b = 0;
@@ -258,8 +258,8 @@ fills τ e = record {
   done = λ x d l. absurd (omega arith);
 }
 
-module _ {X S : Words} {t₀ t steps q₀ q : List ℕ} {end tail p c : ℕ} (φ : Filling X S t₀ t steps q₀ q end tail p c) where
-  pub filled : c ≡ absent → Taken X S t₀ t steps q₀ q end tail p
+module _ {X S : Words} {t₀ t index q₀ q : List ℕ} {end tail p c : ℕ} (φ : Filling X S t₀ t index q₀ q end tail p c) where
+  pub filled : c ≡ absent → Taken X S t₀ t index q₀ q end tail p
   filled e = record { longer = φ.longer; children = λ x d f. φ.done x d (low x d f) f }
     where
       low : (x d : ℕ) → find S (snoc (word S p) x) ≡ some d → x < φ.b
@@ -272,17 +272,17 @@ module _ {X S : Words} {t₀ t steps q₀ q : List ℕ} {end tail p c : ℕ} (φ
     pub filling_row : HasRow t c
     filling_row = state_row φ.longer.taking.queued.tree row.inside
 
-    pub settling : Settling X S t steps q tail p c
+    pub settling : Settling X S t index q tail p c
     settling = record { taking = φ.longer.taking; letter = row.least.letter; child = row.least.child }
 
-    module _ {t' q' : List ℕ} {r : ℕ} (k : Settles X S t t' steps q q' tail r p c) where
+    module _ {t' q' : List ℕ} {r : ℕ} (k : Settles X S t t' index q q' tail r p c) where
       after : Child S t' (word S p) φ.b c
       after = more k.longer.taking.queued.tree (word S p) φ.is f
 
       pub after_row : HasRow t' c
       after_row = state_row k.longer.taking.queued.tree row.inside
 
-      pub fills_on : Filling X S t₀ t' steps q₀ q' end r p (field_at t' c sibling_field)
+      pub fills_on : Filling X S t₀ t' index q₀ q' end r p (field_at t' c sibling_field)
       fills_on = record {
         longer = record {
           taking = k.longer.taking;

@@ -1,33 +1,32 @@
 // Borders, links and chain lengths, filled in one pass, breadth first: those of a state are read from the rows of shorter states.
-ghost use Rattle.std.specs.Prelude.{◌≡◌, length};
+ghost use Rattle.std.specs.Prelude.{length};
 ghost use Rattle.meaning.specs.Words.{Words};
-ghost use Rattle.tree.specs.Tree.{Tree, Blank};
-ghost use Rattle.tree.specs.Steps.{Stepped};
+ghost use Rattle.tree.specs.Insertion.{Growing};
 ghost use Rattle.tree.specs.Filling.{Completed};
 ghost use Rattle.automaton.specs.Queue.{Settling, Settles, Taking, Taken};
 
 use tree::{
-    GUIDE_LENGTH, NONE, border, child_border, count_chain, first_child, first_steps, first_word,
-    letter, next_sibling, open_row, set_border, set_chain_length, set_link, wide,
+    INDEX_LENGTH, NONE, border, child_border, count_chain, first_child, first_word, letter,
+    next_sibling, set_border, set_chain_length, set_link, wide,
 };
 
 // The border, the link and the chain's length of p's child c, which joins the queue of `tail` states. Tells how many they are then.
 // The border's own row tells the link and the length: no border is climbed and no chain walked for them.
 fn settle(
     table: &mut [u16],
-    guide: &[u16; GUIDE_LENGTH],
+    index: &[u16; INDEX_LENGTH],
     queue: &mut [u16; 2048],
     tail: usize,
     p: usize,
     c: usize,
 ) -> usize
-    requires { (X S : Words) × Settling X S table.old guide.now queue.old tail p c }
-    ensures { (X S : Words) → Settling X S table.old guide.now queue.old tail p c → Settles X S table.old table.new guide.now queue.old queue.new tail result p c }
+    requires { (X S : Words) × Settling X S table.old index.now queue.old tail p c }
+    ensures { (X S : Words) → Settling X S table.old index.now queue.old tail p c → Settles X S table.old table.new index.now queue.old queue.new tail result p c }
 {
     if border(table, c) != NONE {
         return tail;
     }
-    let b = child_border(table, guide, p, letter(table, c));
+    let b = child_border(table, index, p, letter(table, c));
     let l = first_word(table, b);
     let k = count_chain(table, c, b);
     set_border(table, c, b);
@@ -40,39 +39,36 @@ fn settle(
 // The same of the children of p, which join the queue.
 fn take_out(
     table: &mut [u16],
-    guide: &[u16; GUIDE_LENGTH],
+    index: &[u16; INDEX_LENGTH],
     queue: &mut [u16; 2048],
     end: usize,
     p: usize,
 ) -> usize
-    requires { (X S : Words) × Taking X S table.old guide.now queue.old end p }
-    ensures { (X S : Words) → Taking X S table.old guide.now queue.old end p → Taken X S table.old table.new guide.now queue.old queue.new end result p }
+    requires { (X S : Words) × Taking X S table.old index.now queue.old end p }
+    ensures { (X S : Words) → Taking X S table.old index.now queue.old end p → Taken X S table.old table.new index.now queue.old queue.new end result p }
 {
     let mut tail = end;
     let mut c = first_child(table, p);
     while c != NONE {
-        tail = settle(table, guide, queue, tail, p, c);
+        tail = settle(table, index, queue, tail, p, c);
         c = next_sibling(table, c);
     }
     tail
 }
 
-// The same of all n states, each once: the queue begins with the root, and depths rise along it. On the way the first states get their
-// rows of steps. At most 2,048 states are taken out; for each, where its border has no row, the siblings below its own letter are
-// passed there, and those borders are climbed that a text of its word would climb. A link costs at most two reads, a chain's length two.
-pub fn complete_rows(table: &mut [u16], n: usize, guide: &mut [u16; GUIDE_LENGTH])
-    requires { (X S : Words) × Tree X S table.old × Blank S table.old × (n ≡ length S) }
-    ensures { (X S : Words) → Tree X S table.old → Blank S table.old → n ≡ length S
-        → Completed X S table.old table.new × Stepped S guide.new }
+// The same of all states, each once: the queue begins with the root, and depths rise along it. At most 2,048 states are taken out;
+// for each the siblings below its own letter are passed at its border, unless the index has that state's children, and those borders
+// are climbed that a text of its word would climb. A link costs at most two reads, a chain's length two.
+pub fn complete_rows(table: &mut [u16], index: &[u16; INDEX_LENGTH])
+    requires { (X S : Words) × Growing X S table.old index.now (length S) }
+    ensures { (X S : Words) → Growing X S table.old index.now (length S) → Completed X S table.old table.new }
 {
-    first_steps(table, n, guide);
     let mut queue = [0u16; 2048];
     let mut head = 0;
     let mut tail = 1;
     while head < tail {
         let p = wide(queue[head]);
-        open_row(table, guide, p);
-        tail = take_out(table, guide, &mut queue, tail, p);
+        tail = take_out(table, index, &mut queue, tail, p);
         head += 1;
     }
 }

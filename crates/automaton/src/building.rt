@@ -1,14 +1,12 @@
 // The whole table of a dictionary that is accepted.
 ghost use Rattle.meaning.specs.Words.{Words};
 ghost use Rattle.tree.specs.declared.layout.Form.TheVariants.{Wide, Narrow};
-ghost use Rattle.meaning.specs.Automaton.{states};
-ghost use Rattle.tree.specs.Chains.{Guided};
 ghost use Rattle.automaton.specs.Building.{Buildable, Plantable, Planted, Builds};
 
 use crate::borders::complete_rows;
 use tree::{
-    Form, GUIDE_LENGTH, INDEX_LENGTH, MOST_NUMBERS, NO_CHILD, NONE, add_row, insert_word,
-    lay_chains, longest_chain, narrow_rows,
+    Form, INDEX_LENGTH, MOST_NUMBERS, NO_CHILD, NONE, add_row, insert_word, longest_chain,
+    narrow_rows,
 };
 
 // How many states the table has, and how long its longest chain is.
@@ -18,17 +16,16 @@ pub struct Built {
     pub longest: usize,
 }
 
-// The words are put into the tree, record by record, and their states are noted. Tells the number of states.
+// The words are put into the tree, record by record. Tells the number of states.
 fn plant(
     map: &[u8],
     dict: &[u8],
     words: usize,
     table: &mut [u16],
     index: &mut [u16; INDEX_LENGTH],
-    ends: &mut [u16; 256],
 ) -> usize
-    requires { (X : Words) × Plantable X map.now dict.now words table.old index.old ends.old }
-    ensures { (X : Words) → Plantable X map.now dict.now words table.old index.old ends.old → Planted X table.old table.new index.new ends.new result }
+    requires { (X : Words) × Plantable X map.now dict.now words table.old index.old }
+    ensures { (X : Words) → Plantable X map.now dict.now words table.old index.old → Planted X table.old table.new index.new result }
 {
     add_row(table, 0, NONE, NONE, 0);
     let mut n = 1;
@@ -37,9 +34,7 @@ fn plant(
     while k < words {
         let start = at + 3;
         let end = start + letters::word_len(dict, at);
-        let reached = insert_word(map, table, index, n, &dict[start..end], k);
-        n = reached.count;
-        ends[k] = reached.state as u16;
+        n = insert_word(map, table, index, n, &dict[start..end], k);
         k += 1;
         at = end;
     }
@@ -47,57 +42,36 @@ fn plant(
 }
 
 // Fills a lent array that has room for any table with that of a dictionary that is accepted with so many words; numbers past the
-// last row stay. Linear in the letters but for the walks along siblings and borders. The guide is left for who reads by the table.
-fn build_wide(
-    map: &[u8],
-    dict: &[u8],
-    words: usize,
-    table: &mut [u16],
-    guide: &mut [u16; GUIDE_LENGTH],
-) -> Built
+// last row stay. Linear in the letters but for the walks along siblings and borders.
+fn build_wide(map: &[u8], dict: &[u8], words: usize, table: &mut [u16]) -> Built
     requires { (X : Words) × Buildable Wide X map.now dict.now words table.old }
-    ensures { (X : Words) → Buildable Wide X map.now dict.now words table.old → Builds Wide X table.old table.new result.states result.longest × Guided X (states X) guide.new }
+    ensures { (X : Words) → Buildable Wide X map.now dict.now words table.old → Builds Wide X table.old table.new result.states result.longest }
 {
     let mut index = [NO_CHILD; INDEX_LENGTH];
-    let mut ends = [0u16; 256];
-    let states = plant(map, dict, words, table, &mut index, &mut ends);
-    complete_rows(table, states, guide);
-    lay_chains(table, &ends, words, guide);
+    let states = plant(map, dict, words, table, &mut index);
+    complete_rows(table, &index);
     let longest = longest_chain(table, states);
     Built { states, longest }
 }
 
 // The same without chain lengths.
-fn build_narrow(
-    map: &[u8],
-    dict: &[u8],
-    words: usize,
-    narrow: &mut [u16],
-    guide: &mut [u16; GUIDE_LENGTH],
-) -> Built
+fn build_narrow(map: &[u8], dict: &[u8], words: usize, narrow: &mut [u16]) -> Built
     requires { (X : Words) × Buildable Narrow X map.now dict.now words narrow.old }
-    ensures { (X : Words) → Buildable Narrow X map.now dict.now words narrow.old → Builds Narrow X narrow.old narrow.new result.states result.longest × Guided X (states X) guide.new }
+    ensures { (X : Words) → Buildable Narrow X map.now dict.now words narrow.old → Builds Narrow X narrow.old narrow.new result.states result.longest }
 {
     let mut table = [0u16; MOST_NUMBERS];
-    let built = build_wide(map, dict, words, &mut table, guide);
+    let built = build_wide(map, dict, words, &mut table);
     narrow_rows(&table, built.states, narrow);
     built
 }
 
 // The same in either form.
-pub fn build(
-    map: &[u8],
-    dict: &[u8],
-    words: usize,
-    form: Form,
-    table: &mut [u16],
-    guide: &mut [u16; GUIDE_LENGTH],
-) -> Built
+pub fn build(map: &[u8], dict: &[u8], words: usize, form: Form, table: &mut [u16]) -> Built
     requires { (X : Words) × Buildable form X map.now dict.now words table.old }
-    ensures { (X : Words) → Buildable form X map.now dict.now words table.old → Builds form X table.old table.new result.states result.longest × Guided X (states X) guide.new }
+    ensures { (X : Words) → Buildable form X map.now dict.now words table.old → Builds form X table.old table.new result.states result.longest }
 {
     match form {
-        Form::Wide => build_wide(map, dict, words, table, guide),
-        Form::Narrow => build_narrow(map, dict, words, table, guide),
+        Form::Wide => build_wide(map, dict, words, table),
+        Form::Narrow => build_narrow(map, dict, words, table),
     }
 }

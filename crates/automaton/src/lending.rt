@@ -2,15 +2,13 @@
 // so a refusal writes nothing.
 ghost use Rattle.std.specs.Prelude.{◌≡◌};
 ghost use Rattle.meaning.specs.Words.{Words};
-ghost use Rattle.meaning.specs.Automaton.{states};
 ghost use Rattle.tree.specs.Forms.{table_in};
-ghost use Rattle.tree.specs.Chains.{Guided};
 ghost use Rattle.automaton.specs.Building.{Accepted};
 ghost use Rattle.automaton.specs.Lending.{judged, wrote, written};
 
 use crate::building::build;
 use crate::rows::{copy_numbers, same_numbers};
-use tree::{Form, GUIDE_LENGTH, MOST_NUMBERS, row_width};
+use tree::{Form, MOST_NUMBERS, row_width};
 
 // What a lent table is: shorter than the rows of the states (7), with other rows (8), or right.
 #[derive(Drop)]
@@ -27,20 +25,12 @@ pub enum Wrote {
     Rows { states: usize, longest: usize },
 }
 
-// Whatever it is, the dictionary's guide is left for who reads by its table.
-pub fn judge_table(
-    map: &[u8],
-    dict: &[u8],
-    words: usize,
-    form: Form,
-    lent: &[u16],
-    guide: &mut [u16; GUIDE_LENGTH],
-) -> Judged
+pub fn judge_table(map: &[u8], dict: &[u8], words: usize, form: Form, lent: &[u16]) -> Judged
     requires { (X : Words) × Accepted X map.now dict.now words }
-    ensures { (X : Words) → Accepted X map.now dict.now words → (result ≡ judged (table_in form X) lent.now) × Guided X (states X) guide.new }
+    ensures { (X : Words) → Accepted X map.now dict.now words → result ≡ judged (table_in form X) lent.now }
 {
     let mut table = [0u16; MOST_NUMBERS];
-    let built = build(map, dict, words, form, &mut table, guide);
+    let built = build(map, dict, words, form, &mut table);
     let end = row_width(form) * built.states;
     if lent.len() < end {
         return Judged::Short;
@@ -57,8 +47,7 @@ fn write_copy(map: &[u8], dict: &[u8], words: usize, form: Form, lent: &mut [u16
     ensures { (X : Words) → Accepted X map.now dict.now words → (result ≡ wrote X (table_in form X) lent.old) × (lent.new ≡ written (table_in form X) lent.old) }
 {
     let mut table = [0u16; MOST_NUMBERS];
-    let mut guide = [0u16; GUIDE_LENGTH];
-    let built = build(map, dict, words, form, &mut table, &mut guide);
+    let built = build(map, dict, words, form, &mut table);
     let states = built.states;
     let longest = built.longest;
     let end = row_width(form) * states;
@@ -77,8 +66,7 @@ pub fn write_table(map: &[u8], dict: &[u8], words: usize, form: Form, lent: &mut
     if lent.len() < MOST_NUMBERS {
         return write_copy(map, dict, words, form, lent);
     }
-    let mut guide = [0u16; GUIDE_LENGTH];
-    let built = build(map, dict, words, form, lent, &mut guide);
+    let built = build(map, dict, words, form, lent);
     Wrote::Rows {
         states: built.states,
         longest: built.longest,

@@ -14,6 +14,7 @@ use Rattle.meaning.specs.Automaton.{states}
 use Rattle.meaning.specs.Readings.{state_at, count_at, up_to, state_column, count_column}
 use Rattle.meaning.proofs.Find.{Tested, pass, fail, test, same_refl, same_true}
 use Rattle.meaning.proofs.Columns.{column_at}
+use Rattle.tree.specs.Index.{Indexed}
 use Rattle.columns.specs.Columns.{Columns}
 use Rattle.columns.specs.Entries.{Reached, IsEntry}
 use Rattle.columns.specs.Scans.{Room, holds_at, are_columns}
@@ -74,7 +75,7 @@ column_more : (g : ℕ → ℕ) (n : ℕ) (l : List ℕ) → n < length l → ta
     → take (suc n) l ≡ up_to g (suc n)
 column_more g n l h e q = take-suc l n 0 h ∙ ap (λ (x : List ℕ). snoc x (get_or l n 0)) e ∙ ap (snoc (up_to g n)) q
 
-module _ {X : Words} {t : Word} {tb guide ss cs : List ℕ} (ρ : Room X t tb guide ss cs) where
+module _ {X : Words} {t : Word} {tb ss cs : List ℕ} (ρ : Room X t tb ss cs) where
   -- the first entries: the test b told whether they are right
   module _ {b : Bool} (e : b ≡ holds_at ss cs 0 0 1) where
     pub first_differs : b ≡ false → false ≡ are_columns X t ss cs
@@ -92,8 +93,8 @@ module _ {X : Words} {t : Word} {tb guide ss cs : List ℕ} (ρ : Room X t tb gu
         }
 
   module _ {s i : ℕ} (φ : Agree X t ss cs s i) where
-    pub agree_reached : i < length t → Reached X t tb guide cs s i
-    agree_reached l = record { table = ρ.table; guided = ρ.guided; place = l; state = φ.state; counts = φ.counts }
+    pub agree_reached : {index : List ℕ} → Indexed (states X) index → i < length t → Reached X t tb index cs s i
+    agree_reached h l = record { table = ρ.table; indexed = h; place = l; state = φ.state; counts = φ.counts }
 
     -- the next ones
     module _ (l : i < length t) {v c k : ℕ} (ε : IsEntry X t (suc i) v c k) {b : Bool} (e : b ≡ holds_at ss cs (i + 1) v c) where

@@ -37,9 +37,9 @@ count_by_column X t cs i e =
     (λ n m. let (low, high) = chain_fits X t (suc i) m in sym (column_at (count_at X t) (suc i) cs e (suc i - size X n) (omega arith)))
 
 -- a step from the state at position i, and the tally of the state it leads to
-module _ {X : Words} {t : Word} {tb guide cs : List ℕ} {s i : ℕ} (ρ : Reached X t tb guide cs s i) where
-  pub reached_bordered : Bordered X (states X) tb guide s
-  reached_bordered = table_bordered ρ.table ρ.guided.stepped (rw ρ.state (state_inside X t i))
+module _ {X : Words} {t : Word} {tb index cs : List ℕ} {s i : ℕ} (ρ : Reached X t tb index cs s i) where
+  pub reached_bordered : Bordered X (states X) tb index s
+  reached_bordered = table_bordered ρ.table ρ.indexed (rw ρ.state (state_inside X t i))
 
   module _ {a v : ℕ} (l : a ≡ get_or t i 0) (e : nearest (states X) (states X) (snoc (word (states X) s) a) ≡ some v) where
     next_state : v ≡ state_at X t (suc i)
@@ -48,10 +48,9 @@ module _ {X : Words} {t : Word} {tb guide cs : List ℕ} {s i : ℕ} (ρ : Reach
         ∙ ap₂ (λ (q b : ℕ). nearest (states X) (states X) (snoc (word (states X) q) b)) ρ.state l
         ∙ state_next X t i ρ.place)
 
-    pub reached_ending : Ending X tb guide cs v (i + 1)
+    pub reached_ending : Ending X tb cs v (i + 1)
     reached_ending = record {
       table = ρ.table;
-      chained = ρ.guided.chained;
       inside = rw next_state (state_inside X t (suc i));
       fits = omega (arith, ap (λ (q : ℕ). length (word (states X) q)) next_state, state_fits X t (suc i));
       long = omega (arith, column_long (count_at X t) (suc i) cs ρ.counts);

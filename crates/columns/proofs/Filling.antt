@@ -15,6 +15,7 @@ use Rattle.meaning.proofs.Suffixes.{nearest_here}
 use Rattle.meaning.proofs.Chains.{chain_length}
 use Rattle.meaning.proofs.Columns.{state_inside, state_chain, probes_within_r}
 use Rattle.tree.specs.Tree.{IsTable}
+use Rattle.tree.specs.Index.{Indexed}
 use Rattle.tree.proofs.Walk.{state_small}
 use Rattle.tree.proofs.Whole.{table_whole}
 use Rattle.columns.specs.Columns.{Columns}
@@ -54,10 +55,9 @@ pub record Filled (X : Words) (t : Word) (ss₀ ss cs₀ cs : List ℕ) (c p s i
   pub probed : p ≡ probes_to X t i
 
 -- the first entries
-pub room_first : {X : Words} {t : Word} {tb guide ss cs : List ℕ} → Room X t tb guide ss cs → Room X t tb guide (set ss 0 0) (set cs 0 1)
+pub room_first : {X : Words} {t : Word} {tb ss cs : List ℕ} → Room X t tb ss cs → Room X t tb (set ss 0 0) (set cs 0 1)
 room_first {ss = ss} {cs} ρ = record {
   table = ρ.table;
-  guided = ρ.guided;
   short = ρ.short;
   states = omega (arith, ρ.states, length-set ss 0 0);
   counts = omega (arith, ρ.counts, length-set cs 0 1);
@@ -74,18 +74,18 @@ filled_first X t ss cs h k = record {
   probed = refl;
 }
 
-module _ {X : Words} {t : Word} {tb guide ss₀ ss cs₀ cs : List ℕ} {c p s i : ℕ}
-    (ρ : Room X t tb guide ss₀ cs₀) (φ : Filled X t ss₀ ss cs₀ cs c p s i) where
+module _ {X : Words} {t : Word} {tb ss₀ ss cs₀ cs : List ℕ} {c p s i : ℕ}
+    (ρ : Room X t tb ss₀ cs₀) (φ : Filled X t ss₀ ss cs₀ cs c p s i) where
   pub filled_states : length ss ≡ length ss₀
   filled_states = written-length φ.states (omega (arith, ρ.states, φ.low))
 
   pub filled_counts : length cs ≡ length cs₀
   filled_counts = written-length φ.counts (omega (arith, ρ.counts, φ.low))
 
-  pub filled_reached : i < length t → Reached X t tb guide cs s i
-  filled_reached l = record {
+  pub filled_reached : {index : List ℕ} → Indexed (states X) index → i < length t → Reached X t tb index cs s i
+  filled_reached h l = record {
     table = ρ.table;
-    guided = ρ.guided;
+    indexed = h;
     place = l;
     state = φ.state;
     counts = written_column φ.counts;

@@ -1,85 +1,39 @@
--- The tally of the words that end at a state, by the run of its chain.
-use mathlib.Core.Path.{◌≡◌, refl, sym, ap, ◌∙◌}
+-- The tally of the words that end at a state, along its chain.
+use mathlib.Core.Path.{◌≡◌, refl, sym, ap, ◌∙◌, subst}
 use mathlib.Core.List.{List, [], ◌∷◌, Memᴰ}
-use Prim.Native.Nat.{ℕ, zero, suc, ◌+◌, ◌-◌, ◌≤◌, ◌<◌}
-use native.Mathlib.Numerals.{add-one}
+use Prim.Native.Nat.{ℕ, ◌+◌, ◌-◌, ◌≤◌, ◌<◌}
 use native.Mathlib.Omega.{arith}
-use lib.ListN.{length, get_or, drop, drop_of_length-le}
-use lib.Seq.{drop-cons}
-use Rattle.meaning.specs.Numbers.{longest_word, most_letters, most_words}
-use Rattle.meaning.specs.Words.{Word, Words, word, size}
+use lib.ListN.{length, get_or}
+use Rattle.meaning.specs.Numbers.{longest_word}
+use Rattle.meaning.specs.Words.{Words, word}
 use Rattle.meaning.specs.Automaton.{states, nearest, chain}
-use Rattle.meaning.specs.Table.{stored, word_field, chain_field}
+use Rattle.meaning.specs.Table.{stored, depth_field, link_field, chain_field}
 use Rattle.meaning.specs.Readings.{capped}
-use Rattle.meaning.proofs.Find.{find_some}
 use Rattle.meaning.proofs.Chains.{chain_word, ends_fits}
 use Rattle.meaning.proofs.Counts.{capped_sum}
 use Rattle.tree.specs.Layout.{field_at, HasRow}
 use Rattle.tree.specs.Tree.{Whole, IsTable}
-use Rattle.tree.specs.Chains.{runs_at, start_of}
 use Rattle.tree.proofs.Walk.{state_row}
-use Rattle.tree.proofs.Chain.{AtWord, Begins, begins, chain_end, at_number}
+use Rattle.tree.proofs.Chain.{AtWord, OnChain, Next, begins, chain_end, next, at_depth}
 use Rattle.tree.proofs.Whole.{table_whole}
-use Rattle.columns.specs.Entries.{Ending, count_before, Summable, Tallied}
+use Rattle.columns.specs.Entries.{Ending, count_before, Tallied}
 
 -- a state has no more letters than a word may have
 pub state_short : {X : Words} {tb : List ℕ} {s : ℕ} → IsTable X tb → s < length (states X) → length (word (states X) s) ≤ longest_word
 state_short {X} {s = s} ι l = let σ = (table_whole ι).tree.states in σ.short (word (states X) s) s (σ.trie.once s l)
 
-member : (l : List ℕ) (j : ℕ) → j < length l → Memᴰ (get_or l j 0) l
-member [] j h = absurd (omega (arith, h))
-member (n ∷ l) zero h = Memᴰ.head refl
-member (n ∷ l) (suc j) h = Memᴰ.tail (member l j (omega (arith, h)))
-
--- the counts before the first j words of the chain of u are added up to c
-pub record Summing (X : Words) (u : Word) (cs : List ℕ) (i c j : ℕ) : Type 0 where
-  pub low : j ≤ length (chain X u)
-  pub sum : capped_sum (count_before X cs i) c (drop j (chain X u)) ≡ capped_sum (count_before X cs i) 0 (chain X u)
-
-pub sum_start : (X : Words) (u : Word) (cs : List ℕ) (i : ℕ) → Summing X u cs i 0 0
-sum_start X u cs i = record { low = omega arith; sum = refl }
-
-module _ {X : Words} {u : Word} {guide cs : List ℕ} {at words i : ℕ} (σ : Summable X u guide cs at words i) {c j : ℕ}
-    (φ : Summing X u cs i c j) where
-  pub sum_end : words ≤ j → c ≡ capped_sum (count_before X cs i) 0 (chain X u)
-  sum_end l =
-      sym (ap (capped_sum (count_before X cs i) c) (drop_of_length-le (chain X u) {i = j} (omega (arith, σ.number)))) ∙ φ.sum
-
-  module _ (more : j < words) where
-    place : j < length (chain X u)
-    place = omega (arith, σ.number)
-
-    pub sum_inside : at + j < most_letters
-    sum_inside = omega (arith, place, σ.run.fits)
-
-    -- the next word
-    module _ {d : ℕ} (e : d ≡ get_or guide (runs_at + (at + j)) 0) where
-      sized : d ≡ size X (get_or (chain X u) j 0)
-      sized =
-          let z : runs_at + (at + j) ≡ runs_at + at + j = omega arith in
-          e ∙ ap (λ (k : ℕ). get_or guide k 0) z ∙ σ.run.sizes j place
-
-      -- its letters stand before position i
-      pub sum_fits : (1 ≤ d) × (d ≤ i)
-      sum_fits =
-          let (ends, low) = chain_word X u (member (chain X u) j place) in
-          (omega (arith, sized), omega (arith, sized, ends_fits ends, σ.fits))
-
-      pub sum_on : {r : ℕ} → r ≡ capped (c + get_or cs (i - d) 0) → Summing X u cs i r (j + 1)
-      sum_on {r} q = rw (add-one j) (record {
-        low = place;
-        sum =
-            ap (λ (x : ℕ). capped_sum (count_before X cs i) x (drop (suc j) (chain X u)))
-            (q ∙ ap (λ (k : ℕ). capped (c + get_or cs (i - k) 0)) sized)
-            ∙ sym (ap (capped_sum (count_before X cs i) c) (drop-cons (chain X u) j 0 place))
-            ∙ φ.sum;
-      })
+-- the words of the chain before v are counted, and so many are left
+pub record Tallying (X : Words) (cs : List ℕ) (s i c left v : ℕ) : Type 0 where
+  pub on : OnChain X (states X) v
+  pub within : (n : ℕ) → Memᴰ n (chain X (word (states X) v)) → Memᴰ n (chain X (word (states X) s))
+  pub sum : capped_sum (count_before X cs i) c (chain X (word (states X) v)) ≡ capped_sum (count_before X cs i) 0 (chain X (word (states X) s))
+  pub number : left ≡ length (chain X (word (states X) v))
 
 none_left : (l : List ℕ) → length l ≡ 0 → l ≡ []
 none_left [] e = refl
 none_left (n ∷ l) e = absurd (omega (arith, e))
 
-module _ {X : Words} {tb guide cs : List ℕ} {s i : ℕ} (ε : Ending X tb guide cs s i) where
+module _ {X : Words} {tb cs : List ℕ} {s i : ℕ} (ε : Ending X tb cs s i) where
   whole : Whole X (states X) tb
   whole = table_whole ε.table
 
@@ -87,50 +41,56 @@ module _ {X : Words} {tb guide cs : List ℕ} {s i : ℕ} (ε : Ending X tb guid
   own_row = state_row whole.tree ε.inside
 
   -- the row of s tells how many words there are
-  module _ {words : ℕ} (e : words ≡ field_at tb s chain_field) where
-    number : words ≡ length (chain X (word (states X) s))
-    number = e ∙ whole.chains s ε.inside
+  pub tally_words : {words : ℕ} → words ≡ field_at tb s chain_field → words ≡ length (chain X (word (states X) s))
+  tally_words e = e ∙ whole.chains s ε.inside
 
-    pub tally_none : words ≡ 0 → Tallied X cs s i 0 0
-    tally_none z =
-        let none = none_left (chain X (word (states X) s)) (sym number ∙ z) in
-        record { sum = sym (ap (capped_sum (count_before X cs i) 0) none); number = sym (ap length none) }
+  pub tally_start : {words v : ℕ} → words ≡ field_at tb s chain_field → v ≡ stored (nearest (states X) X (word (states X) s))
+      → Tallying X cs s i 0 words v
+  tally_start w e =
+      let b = begins whole.tree (word (states X) s) e in
+      record {
+        on = b.on;
+        within = λ n m. subst (λ (l : List ℕ). Memᴰ n l) b.same m;
+        sum = ap (capped_sum (count_before X cs i) 0) b.same;
+        number = tally_words w ∙ sym (ap length b.same);
+      }
 
-    -- the first is that of state v
-    module _ (some_words : words ≡ 0 → ⊥) {v : ℕ} (first : v ≡ stored (nearest (states X) X (word (states X) s))) where
-      from : Begins X (states X) (word (states X) s) v
-      from = begins whole.tree (word (states X) s) first
+  module _ {c left v : ℕ} (φ : Tallying X cs s i c left v) where
+    pub tally_end : left ≡ 0 → {words : ℕ} → words ≡ field_at tb s chain_field → Tallied X cs s i c words
+    tally_end e w =
+        let z = none_left (chain X (word (states X) v)) (sym φ.number ∙ e) in
+        record { sum = sym (ap (capped_sum (count_before X cs i) c) z) ∙ φ.sum; number = tally_words w }
 
-      at_word : AtWord X (states X) v
-      at_word = from.on.here (λ z. some_words (number ∙ sym (ap length from.same) ∙ ap length (chain_end whole.tree z)))
+    module _ (more : left ≡ 0 → ⊥) where
+      abbrev here : AtWord X (states X) v
+      here = φ.on.here (λ e. more (φ.number ∙ ap length (chain_end whole.tree e)))
 
-      pub first_row : HasRow tb v
-      first_row = state_row whole.tree at_word.inside
+      pub tally_row : HasRow tb v
+      tally_row = state_row whole.tree here.inside
 
-      -- .. which is word n
-      module _ {n : ℕ} (k : n ≡ field_at tb v word_field) where
-        n_is : n ≡ at_word.number
-        n_is = k ∙ at_number whole.tree at_word
+      next_word : {l : ℕ} → l ≡ field_at tb v link_field → Next X (states X) tb v here.number l
+      next_word e = next whole.tree whole.links here e
 
-        inside : n < length X
-        inside = omega (arith, n_is, (find_some X (word (states X) v) at_word.number at_word.is).inside)
+      -- the word's letters stand before position i
+      pub tally_fits : {d : ℕ} → d ≡ field_at tb v depth_field → (1 ≤ d) × (d ≤ i)
+      tally_fits e =
+          let m = subst (λ (l : List ℕ). Memᴰ here.number l) (sym (next_word refl).is) (Memᴰ.head refl) in
+          let (ends, low) = chain_word X (word (states X) s) (φ.within here.number m) in
+          let d = at_depth whole.tree here in
+          (omega arith, omega (arith, ends_fits ends, ε.fits))
 
-        pub few_words : n < most_words
-        few_words = omega (arith, inside, whole.tree.words.few)
-
-        reads : word X n ≡ word (states X) v
-        reads = ap (word X) n_is ∙ (find_some X (word (states X) v) at_word.number at_word.is).reads
-
-        same_chain : chain X (word X n) ≡ chain X (word (states X) s)
-        same_chain = ap (chain X) reads ∙ from.same
-
-        pub summable : {at : ℕ} → at ≡ start_of guide n → Summable X (word X n) guide cs at words i
-        summable z = record {
-          run = rw z (ε.chained.runs n inside);
-          number = number ∙ sym (ap length same_chain);
-          fits = omega (arith, ap length reads, from.within, ε.fits);
-          long = ε.long;
-        }
-
-        pub tally_by : {c : ℕ} → c ≡ capped_sum (count_before X cs i) 0 (chain X (word X n)) → Tallied X cs s i c words
-        tally_by q = record { sum = q ∙ ap (capped_sum (count_before X cs i) 0) same_chain; number = number }
+      pub tally_on : {d l r : ℕ} → d ≡ field_at tb v depth_field → l ≡ field_at tb v link_field → r ≡ capped (c + get_or cs (i - d) 0)
+          → Tallying X cs s i r (left - 1) l
+      tally_on {l = l} {r} e g q =
+          let n = next_word g in
+          let k : r ≡ capped (c + count_before X cs i here.number)
+          = q ∙ ap (λ (j : ℕ). capped (c + get_or cs (i - j) 0)) (e ∙ at_depth whole.tree here) in
+          record {
+            on = n.on;
+            within = λ m h. φ.within m (subst (λ (x : List ℕ). Memᴰ m x) (sym n.is) (Memᴰ.tail h));
+            sum =
+                ap (λ (x : ℕ). capped_sum (count_before X cs i) x (chain X (word (states X) l))) k
+                ∙ sym (ap (capped_sum (count_before X cs i) c) n.is)
+                ∙ φ.sum;
+            number = omega (arith, φ.number, ap length n.is);
+          }

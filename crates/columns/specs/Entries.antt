@@ -6,17 +6,16 @@ use Rattle.meaning.specs.Automaton.{states, chain}
 use Rattle.meaning.specs.Readings.{state_at, count_at, up_to}
 use Rattle.meaning.proofs.Counts.{capped_sum}
 use Rattle.tree.specs.Tree.{IsTable}
-use Rattle.tree.specs.Chains.{RunAt, Chained, Guided}
+use Rattle.tree.specs.Index.{Indexed}
 
 -- r is the letter at place i of the text t
 pub record LetterAt (t : Word) (i r : ℕ) : Type 0 where
   pub is : r ≡ get_or t i 0
   pub byte : r < letter_values
 
--- a state of at most i letters, the chains of words, and a count for each position before i
-pub record Ending (X : Words) (tb guide cs : List ℕ) (s i : ℕ) : Type 0 where
+-- a state of at most i letters, and a count for each position before i
+pub record Ending (X : Words) (tb cs : List ℕ) (s i : ℕ) : Type 0 where
   pub table : IsTable X tb
-  pub chained : Chained X guide
   pub inside : s < length (states X)
   pub fits : length (word (states X) s) ≤ i
   pub long : i ≤ length cs
@@ -25,22 +24,15 @@ pub record Ending (X : Words) (tb guide cs : List ℕ) (s i : ℕ) : Type 0 wher
 abbrev pub count_before : Words → List ℕ → ℕ → ℕ → ℕ
 count_before X cs i n = get_or cs (i - size X n) 0
 
--- the run at `at` is the chain of u, which has so many words and at most i letters
-pub record Summable (X : Words) (u : Word) (guide cs : List ℕ) (at words i : ℕ) : Type 0 where
-  pub run : RunAt X u guide at
-  pub number : words ≡ length (chain X u)
-  pub fits : length u ≤ i
-  pub long : i ≤ length cs
-
 -- the counts before the words that end at state s and position i, added up, and how many words these are
 pub record Tallied (X : Words) (cs : List ℕ) (s i c p : ℕ) : Type 0 where
   pub sum : c ≡ capped_sum (count_before X cs i) 0 (chain X (word (states X) s))
   pub number : p ≡ length (chain X (word (states X) s))
 
 -- a letter stands at place i of the text, s is the state before it, and the counts up to position i are right
-pub record Reached (X : Words) (t : Word) (tb guide cs : List ℕ) (s i : ℕ) : Type 0 where
+pub record Reached (X : Words) (t : Word) (tb index cs : List ℕ) (s i : ℕ) : Type 0 where
   pub table : IsTable X tb
-  pub guided : Guided X (states X) guide
+  pub indexed : Indexed (states X) index
   pub place : i < length t
   pub state : s ≡ state_at X t i
   pub counts : take (suc i) cs ≡ up_to (count_at X t) (suc i)

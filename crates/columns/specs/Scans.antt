@@ -2,16 +2,14 @@
 use Rattle.std.specs.Prelude.{◌≡◌, Bool, false, List, ℕ, suc, ◌*◌, ◌≤◌, ◌<◌, eqb, length, get_or, take}
 use Rattle.meaning.specs.Numbers.{longest_text}
 use Rattle.meaning.specs.Words.{if◌then◌else◌, Word, Words, same}
-use Rattle.meaning.specs.Automaton.{states, longest_chain}
+use Rattle.meaning.specs.Automaton.{longest_chain}
 use Rattle.meaning.specs.Table.{over}
 use Rattle.meaning.specs.Readings.{count_at, state_column, count_column, probes, farthest}
 use Rattle.tree.specs.Tree.{IsTable}
-use Rattle.tree.specs.Chains.{Guided}
 
--- table and guide are those of X, the text is not too long, and the columns have an entry for each of its positions
-pub record Room (X : Words) (t : Word) (tb guide ss cs : List ℕ) : Type 0 where
+-- the table is that of X, the text is not too long, and the columns have an entry for each of its positions
+pub record Room (X : Words) (t : Word) (tb ss cs : List ℕ) : Type 0 where
   pub table : IsTable X tb
-  pub guided : Guided X (states X) guide
   pub short : length t ≤ longest_text
   pub states : length t < length ss
   pub counts : length t < length cs

@@ -5,7 +5,7 @@ ghost use Rattle.letters.specs.Letters.{mapped};
 ghost use Rattle.columns.specs.Scans.{Room, holds_at, are_columns};
 
 use crate::entries::entry_after;
-use tree::{GUIDE_LENGTH, wide};
+use tree::{child_index, wide};
 
 fn holds_at(states: &[u16], counts: &[u64], i: usize, s: usize, c: u64) -> bool
     requires { (i < length states.now) × (i < length counts.now) }
@@ -19,26 +19,20 @@ fn holds_at(states: &[u16], counts: &[u64], i: usize, s: usize, c: u64) -> bool
 
 // Each entry is computed from the lent ones before it, which are right by then: no second pair of columns is made. One turn a letter
 // up to the first entry that differs, at the cost of a turn of the scan.
-pub fn are_columns(
-    map: &[u8],
-    table: &[u16],
-    guide: &[u16; GUIDE_LENGTH],
-    text: &[u8],
-    states: &[u16],
-    counts: &[u64],
-) -> bool
-    requires { (X : Words) × Room X (mapped map.now text.now) table.now guide.now states.now counts.now }
+pub fn are_columns(map: &[u8], table: &[u16], text: &[u8], states: &[u16], counts: &[u64]) -> bool
+    requires { (X : Words) × Room X (mapped map.now text.now) table.now states.now counts.now }
     ensures { (X : Words)
-        → Room X (mapped map.now text.now) table.now guide.now states.now counts.now
+        → Room X (mapped map.now text.now) table.now states.now counts.now
         → result ≡ are_columns X (mapped map.now text.now) states.now counts.now }
 {
     if !holds_at(states, counts, 0, 0, 1) {
         return false;
     }
+    let index = child_index(table);
     let mut s = 0;
     let mut i = 0;
     while i < text.len() {
-        let entry = entry_after(map, table, guide, text, counts, s, i);
+        let entry = entry_after(map, table, &index, text, counts, s, i);
         i += 1;
         s = entry.state;
         if !holds_at(states, counts, i, s, entry.count) {

@@ -5,7 +5,7 @@ ghost use Rattle.columns.specs.Scans.{Room, Scans};
 
 use crate::entries::entry_after;
 use crate::reaching::farthest;
-use tree::GUIDE_LENGTH;
+use tree::child_index;
 
 // What a scan tells: how far the text can be read, the count at its end, and the probes.
 #[derive(Drop)]
@@ -15,23 +15,24 @@ pub struct Findings {
     pub probes: u32,
 }
 
-// A text is read alone: it begins in state 0 with the count 1. One turn a letter, at most 4,096; each goes along at most r words of a
-// chain and, at each state of the step's climb that has no row of steps, along the siblings below the letter. All turns together climb
-// at most as many borders as the text has letters. At last `farthest` goes back to the last reading.
+// A text is read alone: it begins in state 0 with the count 1. The index is filled once and takes at most 256 turns more than there
+// are states. Then one turn a letter, at most 4,096; each goes along at most r words of a chain and, at each state of the step's climb
+// whose children the index has not, along the siblings below the letter. All turns together climb at most as many borders as the text
+// has letters. At last `farthest` goes back to the last reading.
 pub fn scan(
     map: &[u8],
     table: &[u16],
-    guide: &[u16; GUIDE_LENGTH],
     text: &[u8],
     states: &mut [u16],
     counts: &mut [u64],
 ) -> Findings
-    requires { (X : Words) × Room X (mapped map.now text.now) table.now guide.now states.old counts.old }
+    requires { (X : Words) × Room X (mapped map.now text.now) table.now states.old counts.old }
     ensures { (X : Words)
-        → Room X (mapped map.now text.now) table.now guide.now states.old counts.old
+        → Room X (mapped map.now text.now) table.now states.old counts.old
         → Scans X (mapped map.now text.now) states.old states.new
         counts.old counts.new result.farthest result.count result.probes }
 {
+    let index = child_index(table);
     states[0] = 0;
     counts[0] = 1;
     let mut count: u64 = 1;
@@ -39,7 +40,7 @@ pub fn scan(
     let mut s = 0;
     let mut i = 0;
     while i < text.len() {
-        let entry = entry_after(map, table, guide, text, counts, s, i);
+        let entry = entry_after(map, table, &index, text, counts, s, i);
         i += 1;
         s = entry.state;
         count = entry.count;

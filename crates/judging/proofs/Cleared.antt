@@ -9,14 +9,12 @@ use lib.ListN.{length, take}
 use borrow.Author.Tests.{eqb-false, ltb-false, leb-false}
 use Rattle.meaning.specs.Numbers.{longest_text, most_counted}
 use Rattle.meaning.specs.Words.{if◌then◌else◌, Word, Words, same}
-use Rattle.meaning.specs.Automaton.{states}
 use Rattle.meaning.specs.Table.{table}
 use Rattle.meaning.specs.Readings.{count_at, state_column, count_column}
 use Rattle.meaning.specs.Plain.{Allowed}
 use Rattle.meaning.proofs.Find.{same_true}
 use Rattle.automaton.specs.Lending.{too_short}
 use Rattle.tree.specs.Tree.{IsTable}
-use Rattle.tree.specs.Chains.{Guided}
 use Rattle.automaton.specs.declared.lending.Judged.TheVariants as judge
 use Rattle.columns.specs.Columns.{Columns, Scanned}
 use Rattle.columns.specs.Scans.{Room, are_columns}
@@ -64,9 +62,6 @@ module _ (T lent : List ℕ) (e : table_refusal T lent ≡ 0) where
 pub table_right : {X : Words} {tb : List ℕ} → Allowed X → table_refusal (table X) tb ≡ 0 → IsTable X tb
 table_right {X} {tb} α e = record { allowed = α; rows = begins_with (table X) tb e }
 
-table_clear : (X : Words) (tb : List ℕ) (t : Word) (ss cs : List ℕ) → Allowed X → scan_refusal X tb t ss cs ≡ 0 → IsTable X tb
-table_clear X tb t ss cs α e = table_right α (none_first (table_refusal (table X) tb) (text_refusal t and_then room_refusal t ss cs) e)
-
 sizes_clear : (X : Words) (tb : List ℕ) (t : Word) (ss cs : List ℕ) → scan_refusal X tb t ss cs ≡ 0 → text_refusal t and_then room_refusal t ss cs ≡ 0
 sizes_clear X tb t ss cs e = none_second (table_refusal (table X) tb) (text_refusal t and_then room_refusal t ss cs) e
 
@@ -78,14 +73,13 @@ short_text X tb t ss cs e =
     (none_first (text_refusal t) (room_refusal t ss cs) (sizes_clear X tb t ss cs scans)))
 
 module _ {X : Words} {tb : List ℕ} {t : Word} {ss cs : List ℕ} (α : Allowed X) where
-  pub room : {guide : List ℕ} → Guided X (states X) guide → scan_refusal X tb t ss cs ≡ 0 → Room X t tb guide ss cs
-  room γ e =
+  pub room : scan_refusal X tb t ss cs ≡ 0 → Room X t tb ss cs
+  room e =
       let sizes = sizes_clear X tb t ss cs e in
       let fits = none_second (text_refusal t) (room_refusal t ss cs) sizes in
       let counted : ℕ = if leb (length cs) (length t) then 10 else 0 in
       record {
-        table = table_clear X tb t ss cs α e;
-        guided = γ;
+        table = table_right α (none_first (table_refusal (table X) tb) (text_refusal t and_then room_refusal t ss cs) e);
         short = ltb-false longest_text (length t) (test_false (ltb longest_text (length t)) 8 0 (none_first (text_refusal t) (room_refusal t ss cs) sizes));
         states = leb-false (length ss) (length t) (test_false (leb (length ss) (length t)) 9 counted fits);
         counts = leb-false (length cs) (length t) (test_false (leb (length cs) (length t)) 9 0 (rest (leb (length ss) (length t)) 9 counted fits));
@@ -93,7 +87,7 @@ module _ {X : Words} {tb : List ℕ} {t : Word} {ss cs : List ℕ} (α : Allowed
 
   pub scanned : list_refusal X tb t ss cs ≡ 0 → Scanned X t tb ss cs
   scanned e = record {
-    table = table_clear X tb t ss cs α (none_first (scan_refusal X tb t ss cs) (columns_refusal X t ss cs) e);
+    table = (room (none_first (scan_refusal X tb t ss cs) (columns_refusal X t ss cs) e)).table;
     columns = both (same (take (suc (length t)) ss) (state_column X t)) (same (take (suc (length t)) cs) (count_column X t)) refl refl
         (test_true (are_columns X t ss cs) 10 (none_second (scan_refusal X tb t ss cs) (columns_refusal X t ss cs) e));
   }

@@ -1,5 +1,5 @@
 -- What the shared tests come to, test by test.
-use mathlib.Core.Path.{◌≡◌, refl, sym, ap, ◌∙◌, subst}
+use mathlib.Core.Path.{◌≡◌, refl, sym, ap, ◌∙◌}
 use mathlib.Core.Bool.{false}
 use mathlib.Core.List.{List}
 use Prim.Native.Nat.{ℕ, zero, suc, ◌≤◌, ◌<◌}
@@ -8,17 +8,15 @@ use lib.ListN.{length}
 use borrow.Author.Tests.{lt-ltb, le-ltb, le-leb, lt-leb}
 use Rattle.meaning.specs.Numbers.{letter_values, longest_text}
 use Rattle.meaning.specs.Words.{Word, Words}
-use Rattle.meaning.specs.Automaton.{states}
 use Rattle.meaning.specs.Plain.{Allowed}
 use Rattle.letters.specs.Letters.{letter}
 use Rattle.records.specs.Run.{Run, ran, refused}
 use Rattle.records.proofs.Accepted.{accepted, allowed}
 use Rattle.records.proofs.Determined.{RanAs}
-use Rattle.tree.specs.Chains.{Guided}
 use Rattle.automaton.specs.Building.{Accepted}
 use Rattle.judging.specs.Under.{words_under}
 use Rattle.judging.specs.Order.{◌and_then◌, text_refusal, room_refusal}
-use Rattle.judging.specs.Judging.{passed, verdict, GuideOf}
+use Rattle.judging.specs.Judging.{passed, verdict}
 use Rattle.judging.specs.declared.judging.Verdict.TheVariants.{Passed, Refused}
 use Rattle.judging.proofs.Under.{under_ran}
 
@@ -82,8 +80,3 @@ told_accepted {m} {d} {end = end} bytes r = record {
 
 pub passed_allowed : (m d : List ℕ) {test : Words → ℕ} → ((x : ℕ) → letter m x < letter_values) → (p : Passes test (words_under m d)) → Allowed p.X
 passed_allowed m d bytes p = allowed bytes (accepted false m d (under_ran m d p.is))
-
--- .. and its guide
-pub passed_guide : {test : Words → ℕ} {run : Run} {guide : List ℕ} (p : Passes test run) → GuideOf run guide
-    → Guided p.X (states p.X) guide
-passed_guide {guide = guide} p σ = subst (λ (r : Run). GuideOf r guide) p.is σ

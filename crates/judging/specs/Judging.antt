@@ -1,9 +1,7 @@
 -- What the shared tests come to.
-use Rattle.std.specs.Prelude.{List, ℕ, zero, suc}
+use Rattle.std.specs.Prelude.{ℕ, zero, suc}
 use Rattle.meaning.specs.Words.{Words}
-use Rattle.meaning.specs.Automaton.{states}
 use Rattle.records.specs.Run.{Run, ran, refused}
-use Rattle.tree.specs.Chains.{Guided}
 use Rattle.judging.specs.declared.judging.Verdict.{Verdict}
 use Rattle.judging.specs.declared.judging.Verdict.TheVariants.{Passed, Refused}
 
@@ -16,8 +14,3 @@ passed (suc n) = Refused (suc n) 0
 abbrev pub verdict : (Words → ℕ) → Run → Verdict
 verdict test (ran X end) = passed (test X)
 verdict test (refused number place) = Refused number place
-
--- the guide of a dictionary that is accepted
-abbrev pub GuideOf : Run → List ℕ → Type 0
-GuideOf (ran X end) guide = Guided X (states X) guide
-GuideOf (refused number place) guide = Unit {0}

@@ -4,14 +4,14 @@ ghost use Rattle.letters.specs.Letters.{mapped};
 ghost use Rattle.tree.specs.Forms.{table_in};
 ghost use Rattle.judging.specs.Under.{words_under};
 ghost use Rattle.judging.specs.Order.{table_refusal, scan_refusal, list_refusal, counted_refusal};
-ghost use Rattle.judging.specs.Judging.{verdict, GuideOf};
+ghost use Rattle.judging.specs.Judging.{verdict};
 
 use crate::maps::check_words;
 use automaton::{Judged, judge_table};
 use columns::{MOST_COUNTED, are_columns};
 use letters::LONGEST_TEXT;
 use records::Dictionary;
-use tree::{Form, GUIDE_LENGTH};
+use tree::Form;
 
 // Nothing is refused so far; or a refusal.
 #[derive(Drop)]
@@ -20,16 +20,9 @@ pub enum Verdict {
     Refused { number: u16, place: u16 },
 }
 
-// 18, the dictionary, 7, 8: of a table in either form. The guide of an accepted dictionary is left for who reads by its table.
-pub fn judge_rows(
-    map: &[u8],
-    dict: &[u8],
-    form: Form,
-    table: &[u16],
-    guide: &mut [u16; GUIDE_LENGTH],
-) -> Verdict
-    ensures { (result ≡ verdict (λ X. table_refusal (table_in form X) table.now) (words_under map.now dict.now))
-        × GuideOf (words_under map.now dict.now) guide.new }
+// 18, the dictionary, 7, 8: of a table in either form.
+pub fn judge_rows(map: &[u8], dict: &[u8], form: Form, table: &[u16]) -> Verdict
+    ensures { result ≡ verdict (λ X. table_refusal (table_in form X) table.now) (words_under map.now dict.now) }
 {
     match check_words(map, dict) {
         Dictionary::Refused { number, place } => Verdict::Refused { number, place },
@@ -37,7 +30,7 @@ pub fn judge_rows(
             words,
             letters: _,
             end: _,
-        } => match judge_table(map, dict, words as usize, form, table, guide) {
+        } => match judge_table(map, dict, words as usize, form, table) {
             Judged::Short => Verdict::Refused {
                 number: 7,
                 place: 0,
@@ -59,12 +52,10 @@ pub fn judge_scan(
     text: &[u8],
     states: &[u16],
     counts: &[u64],
-    guide: &mut [u16; GUIDE_LENGTH],
 ) -> Verdict
-    ensures { (result ≡ verdict (λ X. scan_refusal X table.now (mapped map.now text.now) states.now counts.now) (words_under map.now dict.now))
-        × GuideOf (words_under map.now dict.now) guide.new }
+    ensures { result ≡ verdict (λ X. scan_refusal X table.now (mapped map.now text.now) states.now counts.now) (words_under map.now dict.now) }
 {
-    match judge_rows(map, dict, Form::Wide, table, guide) {
+    match judge_rows(map, dict, Form::Wide, table) {
         Verdict::Refused { number, place } => Verdict::Refused { number, place },
         Verdict::Passed => {
             if LONGEST_TEXT < text.len() {
@@ -101,11 +92,10 @@ pub fn judge_list(
 ) -> Verdict
     ensures { result ≡ verdict (λ X. list_refusal X table.now (mapped map.now text.now) states.now counts.now) (words_under map.now dict.now) }
 {
-    let mut guide = [0u16; GUIDE_LENGTH];
-    match judge_scan(map, dict, table, text, states, counts, &mut guide) {
+    match judge_scan(map, dict, table, text, states, counts) {
         Verdict::Refused { number, place } => Verdict::Refused { number, place },
         Verdict::Passed => {
-            if are_columns(map, table, &guide, text, states, counts) {
+            if are_columns(map, table, text, states, counts) {
                 return Verdict::Passed;
             }
             Verdict::Refused {

@@ -8,7 +8,6 @@ ghost use Rattle.orgamish.specs.Answers.{scan_told};
 use crate::answers::ScanAnswer;
 use columns::scan as scan_text;
 use judging::{Verdict, judge_scan};
-use tree::GUIDE_LENGTH;
 
 // The columns of a text are written to the first entries of lent ones.
 pub fn scan(
@@ -23,11 +22,10 @@ pub fn scan(
         × (states.new ≡ scan_leaves_states (words_under map.now dict.now) table.now (mapped map.now text.now) states.old counts.old)
         × (counts.new ≡ scan_leaves_counts (words_under map.now dict.now) table.now (mapped map.now text.now) states.old counts.old) }
 {
-    let mut guide = [0u16; GUIDE_LENGTH];
-    match judge_scan(map, dict, table, text, states, counts, &mut guide) {
+    match judge_scan(map, dict, table, text, states, counts) {
         Verdict::Refused { number, place } => ScanAnswer::Refused { number, place },
         Verdict::Passed => {
-            let found = scan_text(map, table, &guide, text, states, counts);
+            let found = scan_text(map, table, text, states, counts);
             ScanAnswer::Scanned {
                 accepted: 0 < found.count,
                 farthest: found.farthest as u16,

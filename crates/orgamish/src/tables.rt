@@ -9,7 +9,7 @@ use crate::answers::BuildAnswer;
 use automaton::{Wrote, write_table};
 use judging::{Verdict, check_words, judge_rows};
 use records::Dictionary;
-use tree::{Form, GUIDE_LENGTH};
+use tree::Form;
 
 // The table that a dictionary gives is written in either form.
 fn build_in(map: &[u8], dict: &[u8], form: Form, table: &mut [u16]) -> BuildAnswer
@@ -48,8 +48,7 @@ fn move_in(
     ensures { (build_told result ≡ move_tells (table_in form) (words_under map.now dict.now) table.old (table_in other) input.now)
         × (table.new ≡ move_leaves (table_in form) (words_under map.now dict.now) table.old (table_in other) input.now) }
 {
-    let mut guide = [0u16; GUIDE_LENGTH];
-    match judge_rows(map, dict, other, input, &mut guide) {
+    match judge_rows(map, dict, other, input) {
         Verdict::Refused { number, place } => BuildAnswer::Refused { number, place },
         Verdict::Passed => build_in(map, dict, form, table),
     }

@@ -2,12 +2,12 @@
 use mathlib.Core.Path.{◌≡◌, refl, sym, ◌∙◌, ap, subst}
 use mathlib.Core.Logic.{◌≢◌}
 use mathlib.Core.Option.{none, some}
-use mathlib.Core.List.{List}
+use mathlib.Core.List.{List, []}
 use Prim.Native.Nat.{ℕ, suc, ◌+◌, ◌*◌, ◌≤◌, ◌<◌}
 use native.Mathlib.Decide.{ℕ_discrete}
 use native.Mathlib.Numerals.{add-one}
 use native.Mathlib.Omega.{arith}
-use borrow.Author.Tests.{ne_eqb}
+use borrow.Author.Tests.{eq-eqb, ne_eqb}
 use lib.ListN.{length, get_or, length-set}
 use lib.Seq.{sets, length-sets, get_or-set_other}
 use Rattle.meaning.specs.Numbers.{most_states, absent}
@@ -15,16 +15,17 @@ use Rattle.meaning.specs.Words.{Word, Words, snoc, find, word}
 use Rattle.meaning.specs.Automaton.{add}
 use Rattle.meaning.specs.Table.{stored, first_child, last_letter, next_sibling, child_from, width, letter_field, child_field, sibling_field, depth_field, word_field, border_field, link_field, chain_field}
 use Rattle.meaning.proofs.Lists.{snoc-length}
-use Rattle.meaning.proofs.Find.{find_some, find_new}
+use Rattle.meaning.proofs.Find.{find_some, find_new, find_other}
 use Rattle.meaning.proofs.States.{Bounded, WordsIn, Placed, before, at_end, placed, add_old, add_new, add_bounded, add_words}
 use Rattle.meaning.proofs.Children.{NoChild, child_from_new, child_from_leaf, last_letter_snoc, sibling_snoc, sibling_new}
+use Rattle.meaning.proofs.Rows.{stored_some}
 use Rattle.tree.specs.Layout.{field_at, set_field, HasRow, new_row}
 use Rattle.tree.specs.Tree.{Column, Tree, Blank}
-use Rattle.tree.specs.Index.{IndexedAt, noted}
-use Rattle.tree.specs.Insertion.{Holder, own, child, Sought, attached, Growing, Open, Reaching}
+use Rattle.tree.specs.Index.{Indexed, IndexedAt, Based}
+use Rattle.tree.specs.Insertion.{Holder, own, child, Sought, attached, known_child, noted, rowed, Growing, Open, Reaching}
 use Rattle.tree.proofs.Cells.{set_here, set_past, row_here, row_before, row_past}
 use Rattle.tree.proofs.Walk.{state_row, found_small}
-use Rattle.tree.proofs.Indexing.{index_new}
+use Rattle.tree.proofs.Blocks.{cell, claim_indexed, note_indexed}
 use Rattle.tree.proofs.NewState.{first_kept, next_kept}
 
 -- t' is t with the numbers vs as a new row n, and then n in the field g of an earlier row o
@@ -86,6 +87,15 @@ module _ {X S : Words} {t index : List ℕ} {n p a d : ℕ} (ω : Open X S t ind
         here = subst (λ (Y : Words). find Y (branch S p a) ≡ some q) z e;
         past = λ i l. refl;
       }
+
+  -- the index knows it
+  module _ {base : ℕ} (β : Based index (word S p) base) where
+    pub index_known : {q : ℕ} → q ≡ known_child index base a → q ≢ absent → find S (branch S p a) ≡ some q
+    index_known {q} e f = go (ℕ_discrete base absent)
+      where
+        go : Dec (base ≡ absent) → find S (branch S p a) ≡ some q
+        go (yes z) = absurd (f (e ∙ rw (eq-eqb base absent z)))
+        go (no d) = stored_some _ (e ∙ rw (ne_eqb base absent d) (cell ω.growing.indexed β d ω.byte)) f
 
   pub parent : IndexedAt X S t index p
   parent = record { at = record { tree = τ; inside = ω.inside }; indexed = ω.growing.indexed }
@@ -196,10 +206,29 @@ module _ {X S : Words} {t index : List ℕ} {n p a d : ℕ} (ω : Open X S t ind
               ∙ τ.siblings s l
               ∙ ap stored (sym (next_kept S (word S p) fresh (child b q h) low gap (word S s) s (once l) (λ c e z. i (cc (once l)))))
 
+    -- the index with it
+    grow_index : {base : ℕ} → Based index (word S p) base → Indexed (grown S p a) (rowed (noted index base a n) p a)
+    grow_index {base} β = go (ℕ_discrete p 0)
+      where
+        ι : Indexed (grown S p a) (noted index base a n)
+        ι = note_indexed ω.growing.indexed fresh ω.byte β ω.growing.count
+
+        -- a child of the root has no child yet
+        leaf : word S p ≡ [] → (c : ℕ) → find (grown S p a) (snoc (snoc [] a) c) ≡ none
+        leaf e c =
+            find_other S (branch S p a) (snoc (snoc [] a) c) (λ q. omega (arith, ap length q, snoc-length (word S p) a, ap length e))
+            ∙ τ.states.trie.closed (snoc [] a) c (ap (λ (v : Word). find S (snoc v a)) (sym e) ∙ fresh)
+
+        go : Dec (p ≡ 0) → Indexed (grown S p a) (rowed (noted index base a n) p a)
+        go (yes e) =
+            rw (eq-eqb p 0 e)
+            (claim_indexed states_new ι ω.byte (leaf (ap (word S) e ∙ (find_some S [] 0 τ.states.trie.root).reads)))
+        go (no i) = rw (ne_eqb p 0 i) ι
+
     -- it is added
-    reach_new : {o next : ℕ} → Sought S (word S p) a o next
-        → Reaching X S (word S p) a t (attached (sets t (width * n) (new_row a next d)) p o n) (noted index p a n) n (suc n)
-    reach_new {next = next} σ = go σ.holder σ.low σ.gap
+    reach_new : {base : ℕ} → Based index (word S p) base → {o next : ℕ} → Sought S (word S p) a o next
+        → Reaching X S (word S p) a t (attached (sets t (width * n) (new_row a next d)) p o n) (rowed (noted index base a n) p a) n (suc n)
+    reach_new {base} β {next = next} σ = go σ.holder σ.low σ.gap
       where
         R : Words
         R = grown S p a
@@ -209,17 +238,17 @@ module _ {X S : Words} {t index : List ℕ} {n p a d : ℕ} (ω : Open X S t ind
 
         adds : (o g : ℕ) → o < length S → (letter_field < g) × (g < depth_field)
             → (Added t (set_field t₁ o g n) n (new_row a next d) o g → Pointers S R (set_field t₁ o g n))
-            → Reaching X S (word S p) a t (set_field t₁ o g n) (noted index p a n) n (suc n)
+            → Reaching X S (word S p) a t (set_field t₁ o g n) (rowed (noted index base a n) p a) n (suc n)
         adds o g old h π =
             let r = added t n (new_row a next d) o g refl new_room (omega (arith, ω.growing.count)) (omega arith) in
             let e : R ≡ add S (branch S p a) = sym (add_new S (branch S p a) fresh) in
             record {
               growing =
-                  subst (λ (Y : Words). Growing X Y (set_field t₁ o g n) (noted index p a n) (suc n)) e
+                  subst (λ (Y : Words). Growing X Y (set_field t₁ o g n) (rowed (noted index base a n) p a) (suc n)) e
                   (record {
                     tree = grow_tree σ.next_is r h (π r);
                     blank = grow_blank σ.next_is r h (π r);
-                    indexed = index_new parent ω.byte fresh ω.growing.count;
+                    indexed = grow_index β;
                     count = ap suc ω.growing.count ∙ sym (snoc-length S (branch S p a));
                   });
               here =
@@ -229,13 +258,14 @@ module _ {X S : Words} {t index : List ℕ} {n p a d : ℕ} (ω : Open X S t ind
             }
 
         go : {from o : ℕ} → Holder S (word S p) from o → from ≤ a → NoChild S (word S p) from a
-            → Reaching X S (word S p) a t (attached t₁ p o n) (noted index p a n) n (suc n)
+            → Reaching X S (word S p) a t (attached t₁ p o n) (rowed (noted index base a n) p a) n (suc n)
         go own low gap = adds p child_field ω.inside (omega arith) (in_parent gap)
         go (child b q e) low gap =
             let f = find_some S (snoc (word S p) b) q e in
             rw (ne_eqb q absent (λ z. omega (arith, found_small τ (snoc (word S p) b) e)))
             (adds q sibling_field f.inside (omega arith) (in_child b q e low gap))
 
-    pub reach_added : {o next : ℕ} → Sought S (word S p) a o next → {t₁ t₂ index₁ : List ℕ} → t₁ ≡ sets t (width * n) (new_row a next d)
-        → t₂ ≡ attached t₁ p o n → index₁ ≡ noted index p a n → Reaching X S (word S p) a t t₂ index₁ n (n + 1)
-    reach_added σ e₁ e₂ e₃ = rw (add-one n, e₃, e₂, e₁) (reach_new σ)
+    pub reach_added : {base : ℕ} → Based index (word S p) base → {o next : ℕ} → Sought S (word S p) a o next
+        → {t₁ t₂ index₁ index₂ : List ℕ} → t₁ ≡ sets t (width * n) (new_row a next d) → t₂ ≡ attached t₁ p o n
+        → index₁ ≡ noted index base a n → index₂ ≡ rowed index₁ p a → Reaching X S (word S p) a t t₂ index₂ n (n + 1)
+    reach_added β σ e₁ e₂ e₃ e₄ = rw (add-one n, e₄, e₃, e₂, e₁) (reach_new β σ)

@@ -142,12 +142,11 @@ module _ {X S : Words} {t₀ index₀ : List ℕ} {n₀ k : ℕ} {w : Word} (γ 
     pub partly_row : HasRow t p
     partly_row = state_row φ.growing.tree at.inside
 
-    pub inserted : length w ≤ i → {t' : List ℕ} → t' ≡ set_field t p word_field k → Inserted X S w t₀ t' index p n
+    pub inserted : length w ≤ i → {t' : List ℕ} → t' ≡ set_field t p word_field k → Inserted X S w t₀ t' index n
     inserted h e =
         let all : take i w ≡ w = take_all i w h in
         rw e
         (record {
-          here = subst (λ (u : Word). find (add_all S (prefixes [] u)) u ≡ some p) all φ.here;
           growing =
               numbered (subst (λ (u : Word). Growing X (add_all S (prefixes [] u)) t index n) all φ.growing) w
               (subst (λ (u : Word). find (add_all S (prefixes [] u)) u ≡ some p) all φ.here)

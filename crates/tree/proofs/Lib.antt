@@ -1,12 +1,11 @@
 pub mod Cells
 pub mod Walk
+pub mod Blocks
 pub mod Climb
 pub mod Indexing
-pub mod Steps
 pub mod NewState
 pub mod Grow
 pub mod Inserting
 pub mod Chain
-pub mod Laying
 pub mod Copied
 pub mod Whole

@@ -13,7 +13,7 @@ use Rattle.meaning.proofs.States.{Bounded, WordsIn, allowed_bounded, allowed_wor
 use Rattle.meaning.proofs.Rows.{rows_at, rows-length, rows_take, table-length}
 use Rattle.tree.specs.Layout.{field_at}
 use Rattle.tree.specs.Tree.{Whole, IsTable}
-use Rattle.tree.specs.Steps.{Stepped}
+use Rattle.tree.specs.Index.{Indexed}
 use Rattle.tree.specs.Filling.{Bordered, LinkedAt}
 
 module _ {X S : Words} {t : List ℕ} where
@@ -67,10 +67,10 @@ module _ {X : Words} {t : List ℕ} (ι : IsTable X t) where
   table_whole = rows_whole (allowed_bounded X ι.allowed) (allowed_words X ι.allowed)
       (ap (λ (k : ℕ). take k t) (sym (table-length X)) ∙ ι.rows)
 
-  pub table_bordered : {steps : List ℕ} → Stepped (states X) steps → {s : ℕ} → s < length (states X) → Bordered X (states X) t steps s
+  pub table_bordered : {index : List ℕ} → Indexed (states X) index → {s : ℕ} → s < length (states X) → Bordered X (states X) t index s
   table_bordered i l = record {
     tree = table_whole.tree;
-    stepped = i;
+    indexed = i;
     inside = l;
     borders = λ v h d. table_whole.borders v h;
   }

@@ -1,17 +1,22 @@
 -- What the functions that fill in borders, links and chains ask and leave, and what those ask that read them.
-use Rattle.std.specs.Prelude.{◌≡◌, List, ℕ, ◌*◌, ◌≤◌, ◌<◌, length, get_or}
+use Rattle.std.specs.Prelude.{◌≡◌, List, ℕ, ◌*◌, ◌≤◌, ◌<◌, eqb, length, get_or}
 use Rattle.std.proofs.Math.Option.{some}
-use Rattle.meaning.specs.Words.{Words, word}
+use Rattle.meaning.specs.Numbers.{absent}
+use Rattle.meaning.specs.Words.{if◌then◌else◌, Words, word}
 use Rattle.meaning.specs.Automaton.{border as borderState}
 use Rattle.meaning.specs.Table.{width, border_field, link_field, chain_field}
 use Rattle.tree.specs.Layout.{field_at}
 use Rattle.tree.specs.Tree.{Right, Tree, Whole, border_of, link_of, chain_of}
-use Rattle.tree.specs.Steps.{Stepped}
+use Rattle.tree.specs.Index.{Indexed}
 
--- the borders of the states of at most as many letters as state s are right, and the steps are
-pub record Bordered (X S : Words) (t steps : List ℕ) (s : ℕ) : Type 0 where
+-- where the root goes by a
+abbrev pub root_step : List ℕ → ℕ → ℕ
+root_step index a = if eqb (get_or index a 0) absent then 0 else get_or index a 0
+
+-- the borders of the states of at most as many letters as state s are right, and the index is
+pub record Bordered (X S : Words) (t index : List ℕ) (s : ℕ) : Type 0 where
   pub tree : Tree X S t
-  pub stepped : Stepped S steps
+  pub indexed : Indexed S index
   pub inside : s < length S
   pub borders : (v : ℕ) → v < length S → length (word S v) ≤ length (word S s) → Right S t border_field (border_of S) v
 

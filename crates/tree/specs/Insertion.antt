@@ -1,6 +1,6 @@
 -- What the functions that insert words ask and leave.
 use Rattle.std.proofs.Math.Option.{none, some}
-use Rattle.std.specs.Prelude.{◌≡◌, List, [], ℕ, suc, ◌*◌, ◌≤◌, ◌<◌, eqb, length, get_or}
+use Rattle.std.specs.Prelude.{◌≡◌, List, [], ℕ, suc, ◌+◌, ◌*◌, ◌%◌, ◌≤◌, ◌<◌, eqb, length, get_or, set}
 use Rattle.meaning.specs.Numbers.{absent, letter_values, most_words, longest_word, most_states}
 use Rattle.meaning.specs.Words.{if◌then◌else◌, Word, Words, snoc, find, word}
 use Rattle.meaning.specs.Automaton.{prefixes, add, add_all}
@@ -9,7 +9,7 @@ use Rattle.meaning.specs.Plain.{LettersBelow}
 use Rattle.meaning.proofs.Children.{NoChild}
 use Rattle.tree.specs.Layout.{set_field}
 use Rattle.tree.specs.Tree.{Tree, Blank}
-use Rattle.tree.specs.Index.{Indexed}
+use Rattle.tree.specs.Index.{rows, owners_at, owner, Indexed}
 
 -- Which row points to the child of u with the least letter not below b: 65,535 stands for u's own row, where b is 0; else it is
 -- the row of the child whose letter comes before b.
@@ -29,6 +29,22 @@ pub record Sought (S : Words) (u : Word) (a before next : ℕ) : Type 0 where
 -- the table with row n as p's first child, or as the next sibling of p's child before it
 abbrev pub attached : List ℕ → ℕ → ℕ → ℕ → List ℕ
 attached t p before n = if eqb before absent then set_field t p child_field n else set_field t before sibling_field n
+
+-- the child by a in the block at `base`: none where `base` is none
+abbrev pub known_child : List ℕ → ℕ → ℕ → ℕ
+known_child index base a = if eqb base absent then absent else get_or index (base + a) 0
+
+-- the index with the new state n as the child by a there
+abbrev pub noted : List ℕ → ℕ → ℕ → ℕ → List ℕ
+noted index base a n = if eqb base absent then index else set index (base + a) n
+
+-- .. with the letter x as the owner of its row, where that had none
+abbrev pub claimed : List ℕ → ℕ → List ℕ
+claimed index x = if eqb (owner index (x % rows)) absent then set index (owners_at + x % rows) x else index
+
+-- .. where x is the letter of a new child of p, and p is the root
+abbrev pub rowed : List ℕ → ℕ → ℕ → List ℕ
+rowed index p x = if eqb p 0 then claimed index x else index
 
 -- a tree that words are being inserted into, of n states
 pub record Growing (X S : Words) (t index : List ℕ) (n : ℕ) : Type 0 where
@@ -65,8 +81,7 @@ pub record Insertable (X S : Words) (t index : List ℕ) (n : ℕ) (w : Word) (k
   pub room : width * length (add_all S (prefixes [] w)) ≤ length t
   pub few : length (add_all S (prefixes [] w)) ≤ most_states
 
--- it is in the table, as the state p; past the rows the table is as it was
-pub record Inserted (X S : Words) (w : Word) (t t' index : List ℕ) (p n : ℕ) : Type 0 where
-  pub here : find (add_all S (prefixes [] w)) w ≡ some p
+-- it is in the table; past the rows the table is as it was
+pub record Inserted (X S : Words) (w : Word) (t t' index : List ℕ) (n : ℕ) : Type 0 where
   pub growing : Growing (snoc X w) (add_all S (prefixes [] w)) t' index n
   pub past : (i : ℕ) → width * n ≤ i → get_or t' i 0 ≡ get_or t i 0

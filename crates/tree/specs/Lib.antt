@@ -2,7 +2,5 @@ pub mod Layout
 pub mod Forms
 pub mod Tree
 pub mod Index
-pub mod Steps
-pub mod Chains
 pub mod Insertion
 pub mod Filling

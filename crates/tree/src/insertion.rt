@@ -1,15 +1,15 @@
 // Words put into the tree, letter by letter.
-ghost use Rattle.std.specs.Prelude.{◌≡◌, ◌<◌, get_or};
+ghost use Rattle.std.specs.Prelude.{◌≡◌, ◌+◌, ◌≤◌, ◌<◌, get_or};
 ghost use Rattle.meaning.specs.Numbers.{absent, letter_values, most_states};
 ghost use Rattle.meaning.specs.Words.{Words, word};
 ghost use Rattle.letters.specs.Letters.{mapped};
 ghost use Rattle.tree.specs.Layout.{HasRow};
-ghost use Rattle.tree.specs.Index.{IndexedAt, noted};
-ghost use Rattle.tree.specs.Insertion.{attached, Sought, Open, Reaching, Insertable, Inserted};
+ghost use Rattle.tree.specs.Index.{owners_at, IndexedAt};
+ghost use Rattle.tree.specs.Insertion.{attached, known_child, noted, claimed, rowed, Sought, Open, Reaching, Insertable, Inserted};
 
 use crate::children::{Place, seek};
-use crate::index::{INDEX_LENGTH, known_child, seek_root};
-use crate::layout::{NONE, add_row, letter, set_first_child, set_next_sibling, set_word};
+use crate::index::{INDEX_LENGTH, OWNERS, ROWS, block_of, seek_root};
+use crate::layout::{NONE, add_row, letter, set_first_child, set_next_sibling, set_word, wide};
 
 // A state of a tree of so many states.
 #[derive(Drop)]
@@ -30,13 +30,45 @@ fn attach(table: &mut [u16], p: usize, before: usize, n: usize)
     }
 }
 
-// The new state n joins the index, where its parent p is the root.
-fn note(index: &mut [u16; INDEX_LENGTH], p: usize, a: usize, n: usize)
-    requires { (a < letter_values) × (n < most_states) }
-    ensures { index.new ≡ noted index.old p a n }
+// The child with the letter a in the block of the index at base; none where there is no block.
+fn known_child(index: &[u16; INDEX_LENGTH], base: usize, a: usize) -> usize
+    requires { (a < letter_values) × ((base ≡ absent → ⊥) → base + letter_values ≤ owners_at) }
+    ensures { result ≡ known_child index.now base a }
+{
+    if base == NONE {
+        return NONE;
+    }
+    wide(index[base + a])
+}
+
+// The new state n joins the block of its parent, where there is one.
+fn note(index: &mut [u16; INDEX_LENGTH], base: usize, a: usize, n: usize)
+    requires { (a < letter_values) × (n < most_states) × ((base ≡ absent → ⊥) → base + letter_values ≤ owners_at) }
+    ensures { index.new ≡ noted index.old base a n }
+{
+    if base != NONE {
+        index[base + a] = n as u16;
+    }
+}
+
+// The one-letter state x owns its row, where that has no owner. It is new, so the row stays empty.
+fn claim_row(index: &mut [u16; INDEX_LENGTH], x: usize)
+    requires { x < letter_values }
+    ensures { index.new ≡ claimed index.old x }
+{
+    let row = x % ROWS;
+    if wide(index[OWNERS + row]) == NONE {
+        index[OWNERS + row] = x as u16;
+    }
+}
+
+// The new child of p with the letter a claims a row, where p is the root.
+fn claim_under(index: &mut [u16; INDEX_LENGTH], p: usize, a: usize)
+    requires { a < letter_values }
+    ensures { index.new ≡ rowed index.old p a }
 {
     if p == 0 {
-        index[a] = n as u16;
+        claim_row(index, a);
     }
 }
 
@@ -52,8 +84,8 @@ fn place_under(table: &[u16], index: &[u16; INDEX_LENGTH], p: usize, a: usize) -
     seek(table, p, a)
 }
 
-// The child of p with the letter a, at the depth given, which is added where there is none. Of the root the index tells whether there
-// is one, and where a new one goes; of any other state the sibling walk does.
+// The child of p with the letter a, at the depth given, which is added where there is none. Where the index has p's children it tells
+// whether there is one; else, and for the place of a new one but the root's, the sibling walk does.
 fn reach(
     table: &mut [u16],
     index: &mut [u16; INDEX_LENGTH],
@@ -65,7 +97,8 @@ fn reach(
     requires { (X S : Words) × Open X S table.old index.old n p a depth }
     ensures { (X S : Words) → Open X S table.old index.old n p a depth → Reaching X S (word S p) a table.old table.new index.new result.state result.count }
 {
-    let known = known_child(index, p, a);
+    let base = block_of(table, index, p);
+    let known = known_child(index, base, a);
     if known != NONE {
         return Reached {
             state: known,
@@ -85,7 +118,8 @@ fn reach(
     }
     add_row(table, n, a, next, depth);
     attach(table, p, before, n);
-    note(index, p, a, n);
+    note(index, base, a, n);
+    claim_under(index, p, a);
     let count = n + 1;
     Reached { state: n, count }
 }
@@ -96,7 +130,7 @@ fn wide_letter(map: &[u8], b: u8) -> usize
     letters::letter(map, b) as usize
 }
 
-// Word k is put into the tree of n states. Tells its state, and the number of states after.
+// Word k is put into the tree of n states. Tells the number of states after.
 pub fn insert_word(
     map: &[u8],
     table: &mut [u16],
@@ -104,9 +138,9 @@ pub fn insert_word(
     n: usize,
     letters: &[u8],
     k: usize,
-) -> Reached
+) -> usize
     requires { (X S : Words) × Insertable X S table.old index.old n (mapped map.now letters.now) k }
-    ensures { (X S : Words) → Insertable X S table.old index.old n (mapped map.now letters.now) k → Inserted X S (mapped map.now letters.now) table.old table.new index.new result.state result.count }
+    ensures { (X S : Words) → Insertable X S table.old index.old n (mapped map.now letters.now) k → Inserted X S (mapped map.now letters.now) table.old table.new index.new result }
 {
     let mut count = n;
     let mut p = 0;
@@ -119,5 +153,5 @@ pub fn insert_word(
         count = reached.count;
     }
     set_word(table, p, k);
-    Reached { state: p, count }
+    count
 }

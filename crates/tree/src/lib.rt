@@ -4,17 +4,13 @@ mod children;
 mod index;
 mod insertion;
 mod layout;
-mod rows;
-mod runs;
 mod stepping;
 
 pub use chains::{count_chain, first_word, longest_chain};
-pub use index::{INDEX_LENGTH, NO_CHILD};
-pub use insertion::{Reached, insert_word};
+pub use index::{INDEX_LENGTH, NO_CHILD, child_index};
+pub use insertion::insert_word;
 pub use layout::{
     Form, MOST_NUMBERS, NONE, add_row, border, chain_length, depth, first_child, letter, link,
     narrow_rows, next_sibling, row_width, set_border, set_chain_length, set_link, wide, word,
 };
-pub use rows::{GUIDE_LENGTH, first_steps, open_row};
-pub use runs::{lay_chains, run_size, run_start};
 pub use stepping::{child_border, step};

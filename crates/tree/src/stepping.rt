@@ -4,41 +4,49 @@ ghost use Rattle.std.proofs.Math.Option.{some};
 ghost use Rattle.meaning.specs.Numbers.{letter_values};
 ghost use Rattle.meaning.specs.Words.{Words, snoc, word};
 ghost use Rattle.meaning.specs.Automaton.{nearest, border as borderState};
-ghost use Rattle.tree.specs.Filling.{Bordered};
+ghost use Rattle.tree.specs.Filling.{root_step, Bordered};
 
-use crate::children::child_by;
-use crate::layout::{NONE, border};
-use crate::rows::{GUIDE_LENGTH, NO_ROW, letter_class, row_of, row_step};
+use crate::index::{INDEX_LENGTH, child_of};
+use crate::layout::{NONE, border, wide};
 
-// The state after state s and the letter a: by the row of s, where it has one; else the child of s; else on from its border. The root
-// has a row. Over a text of n letters all steps together climb at most n borders.
-pub fn step(table: &[u16], guide: &[u16; GUIDE_LENGTH], s: usize, a: usize) -> usize
-    requires bordered { (X S : Words) × Bordered X S table.now guide.now s }
-    requires a_lt_letter_values { a < letter_values }
-    ensures { (X S : Words) → Bordered X S table.now guide.now s → nearest S S (snoc (word S s) a) ≡ some result }
+// The state after the root and the letter a: the child by the index, else the root.
+fn root_step(index: &[u16; INDEX_LENGTH], a: usize) -> usize
+    requires { a < letter_values }
+    ensures { result ≡ root_step index.now a }
 {
-    let class = letter_class(guide, a);
+    let c = wide(index[a]);
+    if c == NONE {
+        return 0;
+    }
+    c
+}
+
+// The state after state s and the letter a: the child of s, else that of its border, and so on up to the root. Over a text of n
+// letters all steps together climb at most n borders.
+pub fn step(table: &[u16], index: &[u16; INDEX_LENGTH], s: usize, a: usize) -> usize
+    requires bordered { (X S : Words) × Bordered X S table.now index.now s }
+    requires a_lt_letter_values { a < letter_values }
+    ensures { (X S : Words) → Bordered X S table.now index.now s → nearest S S (snoc (word S s) a) ≡ some result }
+{
     let mut v = s;
-    let mut row = row_of(guide, v);
-    while row == NO_ROW {
-        let c = child_by(table, v, a);
+    while v != 0 {
+        let c = child_of(table, index, v, a);
         if c != NONE {
             return c;
         }
         v = border(table, v);
-        row = row_of(guide, v);
     }
-    row_step(guide, row, class)
+    root_step(index, a)
 }
 
 // The border of the child of p by the letter a: the root's children have the root, any other the step from p's border.
-pub fn child_border(table: &[u16], guide: &[u16; GUIDE_LENGTH], p: usize, a: usize) -> usize
-    requires bordered { (X S : Words) × Bordered X S table.now guide.now p }
+pub fn child_border(table: &[u16], index: &[u16; INDEX_LENGTH], p: usize, a: usize) -> usize
+    requires bordered { (X S : Words) × Bordered X S table.now index.now p }
     requires a_lt_letter_values { a < letter_values }
-    ensures { (X S : Words) → Bordered X S table.now guide.now p → borderState S (snoc (word S p) a) ≡ some result }
+    ensures { (X S : Words) → Bordered X S table.now index.now p → borderState S (snoc (word S p) a) ≡ some result }
 {
     if p == 0 {
         return 0;
     }
-    step(table, guide, border(table, p), a)
+    step(table, index, border(table, p), a)
 }

@@ -6,7 +6,6 @@ use native.Mathlib.Omega.{arith}
 use borrow.Author.Rules.{rules}
 use Rattle.meaning.specs.Numbers.{absent}
 use Rattle.automaton.proofs.Queue.{bordered, child_inside, child_row, child_byte, passes, border_linked, border_counted, all_small, room, settles}
-use Rattle.automaton.proofs.Breadth.{queue_fits}
 use Rattle.automaton.proofs.borders.settle.Statement.{statement}
 use Rattle.automaton.proofs.borders.settle.Tie as tie
 
@@ -75,7 +74,7 @@ cast-queue c =
     omega (arith, child_inside σ, σ.taking.queued.tree.states.few)
 
 mul-queue : tie.Need-overflow-mul-queue
-mul-queue c = omega (arith, queue_fits (entry c.before.before.before.before.before.before.before.before.before.before.before.before).requires.2.taking.queued)
+mul-queue c = search rules
 
 -- where a state joins the queue, there is room
 element-write-queue : tie.Need-element-write-queue
@@ -91,7 +90,7 @@ element-write-queue c =
     (sym chosen.before.border.ensures.is ∙ chosen.if1.false)
 
 add-result : tie.Need-overflow-add-result
-add-result c = omega (arith, queue_fits (entry c.before.before.before.before.before.before.before.before.before.before.before.before).requires.2.taking.queued)
+add-result c = search rules
 
 same-length-2 : tie.Need-same-length-2
 same-length-2 c = search rules

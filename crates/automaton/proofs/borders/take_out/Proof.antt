@@ -8,11 +8,11 @@ use Rattle.automaton.proofs.borders.take_out.Statement.{statement}
 use Rattle.automaton.proofs.borders.take_out.Tie as tie
 
 abbrev invariant_loop : tie.invariant_loop
-invariant_loop table₀ steps queue₀ end p tail₀ c₀ table queue tail c =
-    (X S : Words) → Taking X S table₀ steps queue₀ end p → Filling X S table₀ table steps queue₀ queue end tail p c
+invariant_loop table₀ index queue₀ end p tail₀ c₀ table queue tail c =
+    (X S : Words) → Taking X S table₀ index queue₀ end p → Filling X S table₀ table index queue₀ queue end tail p c
 
 abbrev decreases_loop : tie.decreases_loop
-decreases_loop table₀ steps queue₀ end p tail₀ c₀ table queue tail c = left table c
+decreases_loop table₀ index queue₀ end p tail₀ c₀ table queue tail c = left table c
 
 first-child-requires : tie.Need-first-child-requires invariant_loop decreases_loop
 first-child-requires c κs = let τ = c.before.before.requires.2 in state_row τ.queued.tree τ.inside

@@ -13,7 +13,7 @@ slice-aggregate-build-wide : tie.Need-slice-aggregate-build-wide
 slice-aggregate-build-wide c = search rules
 
 build-wide-requires : tie.Need-build-wide-requires
-build-wide-requires c κs = let pre = c.before.before.before.before.before.requires in (pre.0, roomy Wide pre.1.accepted)
+build-wide-requires c κs = let pre = c.before.before.before.before.requires in (pre.0, roomy Wide pre.1.accepted)
 
 slice-aggregate-narrow-rows : tie.Need-slice-aggregate-narrow-rows
 slice-aggregate-narrow-rows c = search rules
@@ -21,8 +21,8 @@ slice-aggregate-narrow-rows c = search rules
 narrow-rows-requires : tie.Need-narrow-rows-requires
 narrow-rows-requires c κs =
     let made = c.before.before.before in
-    let pre = made.before.before.before.before.before.before.requires in
-    let (β, _) = made.build-wide.ensures _ (roomy Wide pre.1.accepted) in
+    let pre = made.before.before.before.before.before.requires in
+    let β = made.build-wide.ensures _ (roomy Wide pre.1.accepted) in
     let few = (allowed_bounded _ pre.1.accepted.allowed).few in
     (made_room β (end_is β refl), omega (arith, pre.1.room, β.count))
 
@@ -32,9 +32,9 @@ same_length c = search rules
 returns : tie.Need-returns
 returns c X ν =
     let made = c.before.before.before.before.before.before in
-    let (β, σ) = made.build-wide.ensures X (roomy Wide ν.accepted) in
+    let β = made.build-wide.ensures X (roomy Wide ν.accepted) in
     let few = (allowed_bounded X ν.accepted.allowed).few in
-    (narrowed β (omega (arith, ν.room, β.count)) c.before.before.narrow-rows.auto.1.1.0 c.before.before.narrow-rows.ensures, σ)
+    narrowed β (omega (arith, ν.room, β.count)) c.before.before.narrow-rows.auto.1.1.0 c.before.before.narrow-rows.ensures
 
 pub build-narrow-spec : {M : Type 1} → statement M
 build-narrow-spec =

@@ -9,7 +9,7 @@ slice-aggregate-build : tie.Need-slice-aggregate-build
 slice-aggregate-build c = search rules
 
 build-requires : tie.Need-build-requires
-build-requires c κs = let s = c.before.before.before.before.before in (s.requires.0, roomy s.args.form s.requires.1)
+build-requires c κs = let s = c.before.before.before.before in (s.requires.0, roomy s.args.form s.requires.1)
 
 row-width-requires : tie.Need-row-width-requires
 row-width-requires c κs = search rules
@@ -17,16 +17,16 @@ row-width-requires c κs = search rules
 mul-end : tie.Need-overflow-mul-end
 mul-end c =
     let made = c.before.before.before in
-    let s = made.before.before.before.before.before.before in
+    let s = made.before.before.before.before.before in
     let α = s.requires.1 in
-    omega (arith, end_is (made.build.ensures _ (roomy s.args.form α)).0 c.before.row-width.ensures, form_small s.args.form α.allowed)
+    omega (arith, end_is (made.build.ensures _ (roomy s.args.form α)) c.before.row-width.ensures, form_small s.args.form α.allowed)
 
 returns : tie.Need-returns
 returns c X α =
     let made = c.before.before.before.before in
-    let s = made.before.before.before.before.before.before in
-    let (β, σ) = made.build.ensures X (roomy s.args.form α) in
-    (judged_short β (end_is β c.before.before.row-width.ensures) s.args.lent.now c.if1.true, σ)
+    let s = made.before.before.before.before.before in
+    let β = made.build.ensures X (roomy s.args.form α) in
+    judged_short β (end_is β c.before.before.row-width.ensures) s.args.lent.now c.if1.true
 
 slice-aggregate-same-numbers : tie.Need-slice-aggregate-same-numbers
 slice-aggregate-same-numbers c = search rules
@@ -34,23 +34,23 @@ slice-aggregate-same-numbers c = search rules
 same-numbers-requires : tie.Need-same-numbers-requires
 same-numbers-requires c κs =
     let made = c.before.before.before.before.before in
-    let s = made.before.before.before.before.before.before in
-    let (β, _) = made.build.ensures _ (roomy s.args.form s.requires.1) in
+    let s = made.before.before.before.before.before in
+    let β = made.build.ensures _ (roomy s.args.form s.requires.1) in
     (c.before.if1.false, made_room β (end_is β c.before.before.before.row-width.ensures))
 
 returns_2 : tie.Need-returns-2
 returns_2 c X α =
     let made = c.before.before.before.before.before.before.before in
-    let s = made.before.before.before.before.before.before in
-    let (β, σ) = made.build.ensures X (roomy s.args.form α) in
-    (judged_right β (end_is β c.before.before.before.before.before.row-width.ensures) s.args.lent.now c.before.before.before.if1.false c.before.same_numbers.ensures c.if2.true, σ)
+    let s = made.before.before.before.before.before in
+    let β = made.build.ensures X (roomy s.args.form α) in
+    judged_right β (end_is β c.before.before.before.before.before.row-width.ensures) s.args.lent.now c.before.before.before.if1.false c.before.same_numbers.ensures c.if2.true
 
 returns-3 : tie.Need-returns-3
 returns-3 c X α =
     let made = c.before.before.before.before.before.before.before in
-    let s = made.before.before.before.before.before.before in
-    let (β, σ) = made.build.ensures X (roomy s.args.form α) in
-    (judged_other β (end_is β c.before.before.before.before.before.row-width.ensures) s.args.lent.now c.before.before.before.if1.false c.before.same_numbers.ensures c.if2.false, σ)
+    let s = made.before.before.before.before.before in
+    let β = made.build.ensures X (roomy s.args.form α) in
+    judged_other β (end_is β c.before.before.before.before.before.row-width.ensures) s.args.lent.now c.before.before.before.if1.false c.before.same_numbers.ensures c.if2.false
 
 pub judge-table-spec : {M : Type 1} → statement M
 judge-table-spec =

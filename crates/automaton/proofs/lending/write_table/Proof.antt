@@ -16,8 +16,8 @@ returns c = search rules
 
 build-requires : tie.Need-build-requires
 build-requires c κs =
-    let s = c.before.before.before.before.before.before in
-    (s.requires.0, roomy_lent s.args.form s.requires.1 (omega (arith, c.before.before.if1.false)))
+    let s = c.before.before.before.before.before in
+    (s.requires.0, roomy_lent s.args.form s.requires.1 (omega (arith, c.before.if1.false)))
 
 same-length-2 : tie.Need-same-length-2
 same-length-2 c = search rules
@@ -25,9 +25,9 @@ same-length-2 c = search rules
 returns_2 : tie.Need-returns-2
 returns_2 c X α =
     let made = c.before.before in
-    let s = made.before.before.before.before.before.before.before in
-    let room = made.before.before.before.if1.false in
-    wrote_in_place α.allowed (omega (arith, room)) (made.build.ensures X (roomy_lent s.args.form α (omega (arith, room)))).0
+    let s = made.before.before.before.before.before.before in
+    let room = made.before.before.if1.false in
+    wrote_in_place α.allowed (omega (arith, room)) (made.build.ensures X (roomy_lent s.args.form α (omega (arith, room))))
 
 pub write-table-spec : {M : Type 1} → statement M
 write-table-spec =

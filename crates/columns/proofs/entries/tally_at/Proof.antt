@@ -1,73 +1,96 @@
--- `columns::entries::tally_at`: the chain of the state is that of its first word, whose run is summed up.
-use mathlib.Core.Path.{◌≡◌}
-use borrow.Author.Rules.{rules}
-use Rattle.meaning.specs.Words.{Words, word}
-use Rattle.meaning.specs.Automaton.{states, nearest}
-use Rattle.meaning.specs.Table.{stored}
+-- `columns::entries::tally_at`: at the loop's head the words of the chain before v are counted.
+use native.Mathlib.Omega.{arith}
+use Rattle.meaning.specs.Words.{Words}
 use Rattle.tree.proofs.Whole.{table_linked}
 use Rattle.columns.specs.Entries.{Ending}
-use Rattle.columns.proofs.Tallying.{own_row, tally_none, first_row, few_words, summable, tally_by}
+use Rattle.columns.proofs.Tallying.{Tallying, own_row, tally_start, tally_end, tally_row, tally_fits, tally_on}
 use Rattle.columns.proofs.entries.tally_at.Statement.{statement}
 use Rattle.columns.proofs.entries.tally_at.Tie as tie
 
-abbrev entry : tie.Else1 → tie.Start
-entry c = c.before.before.before.before
+abbrev invariant_loop : tie.invariant_loop
+invariant_loop table counts s i words count₀ left₀ v₀ count left v = (X : Words) → Ending X table counts s i → Tallying X counts s i count left v
 
--- the state of the first word
-first : (c : tie.After-first-word) {X : Words} → (let x = (entry c.before).args in
-    Ending X x.table.now x.guide.now x.counts.now x.s x.i
-    → c.first_word.result ≡ stored (nearest (states X) X (word (states X) x.s)))
-first c ε = c.first_word.ensures _ _ (table_linked ε.table ε.inside)
+abbrev decreases_loop : tie.decreases_loop
+decreases_loop table counts s i words count₀ left₀ v₀ count left v = left
 
-chain-length-requires : tie.Need-chain-length-requires
+chain-length-requires : tie.Need-chain-length-requires invariant_loop decreases_loop
 chain-length-requires c κs = own_row c.before.before.requires.1
 
-returns : tie.Need-returns
-returns c X ε = tally_none ε c.before.chain_length.ensures.is c.if1.true
+first-word-requires : tie.Need-first-word-requires invariant_loop decreases_loop
+first-word-requires c κs = let (X, ε) = c.before.before.before.requires in (X, _, table_linked ε.table ε.inside)
 
-first-word-requires : tie.Need-first-word-requires
-first-word-requires c κs = let (X, ε) = (entry c).requires in (X, _, table_linked ε.table ε.inside)
+loop_holds : tie.Need-loop-init invariant_loop decreases_loop
+loop_holds c X ε = tally_start ε c.before.chain_length.ensures.is (c.first_word.ensures X _ (table_linked ε.table ε.inside))
 
-word-requires : tie.Need-word-requires
-word-requires c κs =
-    let d = c.before in
-    let (X, ε) = (entry d).requires in
-    first_row ε d.before.chain_length.ensures.is d.if1.false (first c ε)
+depth-requires : tie.Need-depth-requires invariant_loop decreases_loop
+depth-requires c κs =
+    let (X, ε) = c.before.before.before.before.before.before.requires in
+    tally_row ε (c.before.loop.invariant X ε) c.loop-test.true
 
-run-start-requires : tie.Need-run-start-requires
-run-start-requires c κs =
-    let d = c.before.before in
-    let (X, ε) = (entry d).requires in
-    few_words ε d.before.chain_length.ensures.is d.if1.false (first c.before ε) c.word.ensures.is
+sub-before : tie.Need-overflow-sub-before invariant_loop decreases_loop
+sub-before c =
+    let turn = c.before in
+    let (X, ε) = turn.before.before.before.before.before.before.requires in
+    (tally_fits ε (turn.before.loop.invariant X ε) turn.loop-test.true c.depth.ensures.is).1
 
-sum-before-requires : tie.Need-sum-before-requires
-sum-before-requires c κs =
-    let named = c.before in
-    let d = named.before.before in
-    let (X, ε) = (entry d).requires in
-    (X, _, summable ε d.before.chain_length.ensures.is d.if1.false (first named.before ε) named.word.ensures.is c.run_start.ensures)
+mul-before : tie.Need-overflow-mul-before invariant_loop decreases_loop
+mul-before c =
+    let start = c.before.before.before.before.before.before.before in
+    let (X, ε) = start.requires in
+    record { fits = omega (arith, ε.long, start.well-formed) }
 
-cast-t12 : tie.Need-overflow-cast-t12
-cast-t12 c = search rules
+shared-slice-read-before : tie.Need-shared-slice-read-before invariant_loop decreases_loop
+shared-slice-read-before c =
+    let turn = c.before.before in
+    let (X, ε) = turn.before.before.before.before.before.before.requires in
+    omega (arith, tally_fits ε (turn.before.loop.invariant X ε) turn.loop-test.true c.before.depth.ensures.is, ε.long)
 
-returns_2 : tie.Need-returns-2
-returns_2 c X ε =
-    let named = c.before.before in
-    let d = named.before.before in
-    let words = d.before.chain_length.ensures.is in
-    let v = first named.before ε in
-    let n = named.word.ensures.is in
-    tally_by ε words d.if1.false v n (c.sum-before.ensures X _ (summable ε words d.if1.false v n c.before.run_start.ensures))
+add-capped-requires : tie.Need-add-capped-requires invariant_loop decreases_loop
+add-capped-requires c κs = tt
+
+link-requires : tie.Need-link-requires invariant_loop decreases_loop
+link-requires c κs =
+    let turn = c.before.before.before in
+    let (X, ε) = turn.before.before.before.before.before.before.requires in
+    tally_row ε (turn.before.loop.invariant X ε) turn.loop-test.true
+
+sub-left : tie.Need-overflow-sub-left invariant_loop decreases_loop
+sub-left c = omega (arith, c.before.before.before.before.loop-test.true)
+
+loop_less : tie.Need-loop-smaller invariant_loop decreases_loop
+loop_less c = omega (arith, c.before.before.before.before.loop-test.true)
+
+loop_again : tie.Need-loop-preserved invariant_loop decreases_loop
+loop_again c X ε =
+    let turn = c.before.before.before.before in
+    tally_on ε (turn.before.loop.invariant X ε) turn.loop-test.true
+    c.before.before.before.depth.ensures.is c.link.ensures.is c.before.add-capped.ensures
+
+cast-t16 : tie.Need-overflow-cast-t16 invariant_loop decreases_loop
+cast-t16 c = omega (arith, c.before.before.before.chain_length.ensures.small)
+
+returns : tie.Need-returns invariant_loop decreases_loop
+returns c X ε =
+    let head = c.before in
+    tally_end ε (head.loop.invariant X ε) c.loop-test.false head.before.before.chain_length.ensures.is
 
 pub tally-at-spec : {M : Type 1} → statement M
 tally-at-spec =
     tie.close
     (tie.spec
+    invariant_loop
+    decreases_loop
     chain-length-requires
-    returns
     first-word-requires
-    word-requires
-    run-start-requires
-    sum-before-requires
-    cast-t12
-    returns_2)
+    loop_holds
+    depth-requires
+    sub-before
+    mul-before
+    shared-slice-read-before
+    add-capped-requires
+    link-requires
+    sub-left
+    loop_less
+    loop_again
+    cast-t16
+    returns)

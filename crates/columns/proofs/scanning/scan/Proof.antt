@@ -7,6 +7,7 @@ use lib.ListN.{length, set, length-set}
 use Rattle.meaning.specs.Numbers.{longest_text}
 use Rattle.meaning.specs.Words.{Words}
 use Rattle.letters.specs.Letters.{mapped}
+use Rattle.tree.proofs.Whole.{table_whole}
 use Rattle.columns.specs.Columns.{Scanned}
 use Rattle.columns.specs.Entries.{Reached, IsEntry}
 use Rattle.columns.specs.Scans.{Room}
@@ -16,22 +17,27 @@ use Rattle.columns.proofs.scanning.scan.Statement.{statement}
 use Rattle.columns.proofs.scanning.scan.Tie as tie
 
 abbrev invariant_loop : tie.invariant_loop
-invariant_loop map table guide text states₀ counts₀ count₀ probes₀ s₀ i₀ states counts count probes s i =
-    (X : Words) → Room X (mapped map text) table guide states₀ counts₀
+invariant_loop map table text states₀ counts₀ index count₀ probes₀ s₀ i₀ states counts count probes s i =
+    (X : Words) → Room X (mapped map text) table states₀ counts₀
     → Filled X (mapped map text) states₀ states counts₀ counts count probes s i
 
 abbrev decreases_loop : tie.decreases_loop
-decreases_loop map table guide text states₀ counts₀ count₀ probes₀ s₀ i₀ states counts count probes s i =
+decreases_loop map table text states₀ counts₀ index count₀ probes₀ s₀ i₀ states counts count probes s i =
     length text - i
 
-abbrev start : tie.After-slice-known2 invariant_loop decreases_loop → tie.Start invariant_loop decreases_loop
-start c = c.before.before.before.before.before
+abbrev start : tie.After-child-index invariant_loop decreases_loop → tie.Start invariant_loop decreases_loop
+start c = c.before.before.before.before.before.before
 
 -- the columns where the loop begins
 abbrev Begun : tie.Start invariant_loop decreases_loop → Words → Type 0
 Begun a X =
-    Room X (mapped a.args.map.now a.args.text.now) a.args.table.now a.args.guide.now
+    Room X (mapped a.args.map.now a.args.text.now) a.args.table.now
     (set a.args.states.now 0 0) (set a.args.counts.now 0 1)
+
+child-index-requires : tie.Need-child-index-requires invariant_loop decreases_loop
+child-index-requires c κs =
+    let (X, ρ) = c.before.before.before.before.before.requires in
+    (X, _, (table_whole ρ.table).tree)
 
 slice-write-states : tie.Need-slice-write-states invariant_loop decreases_loop
 slice-write-states c = let (X, ρ) = (start c).requires in omega (arith, ρ.states)
@@ -56,26 +62,28 @@ place c =
 -- .. so that the entry after it can be computed, ..
 reached : (c : tie.In-loop invariant_loop decreases_loop) (X : Words) → Begun (start c.before.before) X
     → let a = (start c.before.before).args in let l = c.before.loop in
-    Reached X (mapped a.map.now a.text.now) a.table.now a.guide.now l.counts l.s l.i
-reached c X ρ = filled_reached ρ (c.before.loop.invariant X ρ) (place c)
+    Reached X (mapped a.map.now a.text.now) a.table.now c.before.before.child-index.result l.counts l.s l.i
+reached c X ρ =
+    let indexed = c.before.before.child-index.ensures X _ (table_whole ρ.table).tree in
+    filled_reached ρ (c.before.loop.invariant X ρ) indexed (place c)
 
 entry-after-requires : tie.Need-entry-after-requires invariant_loop decreases_loop
 entry-after-requires c κs =
-    let turn = c.before in
+    let turn = c.before.before in
     let (X, ρ) = (start turn.before.before).pre in
     (X, reached turn X (room_first ρ))
 
 -- .. and is, and there is room for it
 entry : (c : tie.After-entry-after invariant_loop decreases_loop) (X : Words)
-    → let turn = c.before.before in Begun (start turn.before.before) X
+    → let turn = c.before.before.before in Begun (start turn.before.before) X
     → let a = (start turn.before.before).args in let e = c.entry-after.result in
     IsEntry X (mapped a.map.now a.text.now) (suc turn.before.loop.i) e.state e.count e.probes
-entry c X ρ = c.entry-after.ensures X (reached c.before.before X ρ)
+entry c X ρ = c.entry-after.ensures X (reached c.before.before.before X ρ)
 
-room : (c : tie.After-entry-after invariant_loop decreases_loop) → let l = c.before.before.before.loop in
+room : (c : tie.After-entry-after invariant_loop decreases_loop) → let l = c.before.before.before.before.loop in
     (l.i < longest_text) × (l.i + 1 < length l.states) × (l.i + 1 < length l.counts)
 room c =
-    let turn = c.before.before in
+    let turn = c.before.before.before in
     let (X, σ) = (start turn.before.before).pre in
     let ρ = room_first σ in
     let φ = turn.before.loop.invariant X ρ in
@@ -87,7 +95,7 @@ add-i c = record { fits = omega (arith, room c) }
 
 cast-states : tie.Need-overflow-cast-states invariant_loop decreases_loop
 cast-states c =
-    let turn = c.before.before in
+    let turn = c.before.before.before in
     let (X, σ) = (start turn.before.before).pre in
     let ρ = room_first σ in
     record { fits = omega (arith, filled_state_small ρ (turn.before.loop.invariant X ρ) (place turn) (entry c X ρ)) }
@@ -107,18 +115,18 @@ slice-write-counts-2 c = omega (arith, room c)
 add-probes : tie.Need-overflow-add-probes invariant_loop decreases_loop
 add-probes c =
     let after = c.before in
-    let turn = after.before.before in
+    let turn = after.before.before.before in
     let (X, σ) = (start turn.before.before).pre in
     let ρ = room_first σ in
     record { fits = omega (arith, filled_probes_small ρ (turn.before.loop.invariant X ρ) (place turn) (entry after X ρ), (room after).0) }
 
 loop_less : tie.Need-loop-smaller invariant_loop decreases_loop
-loop_less c = omega (arith, c.before.before.before.loop-test.true)
+loop_less c = omega (arith, c.before.before.before.before.loop-test.true)
 
 loop_again : tie.Need-loop-preserved invariant_loop decreases_loop
 loop_again c X ρ =
     let after = c.before in
-    let turn = after.before.before in
+    let turn = after.before.before.before in
     filled_on ρ (turn.before.loop.invariant X ρ) (place turn) (entry after X ρ)
 
 -- after the last turn the columns are those of the text
@@ -171,6 +179,7 @@ scan-spec =
     (tie.spec
     invariant_loop
     decreases_loop
+    child-index-requires
     slice-write-states
     slice-write-counts
     loop_holds

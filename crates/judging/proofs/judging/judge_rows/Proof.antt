@@ -1,16 +1,16 @@
 -- `judging::judging::judge_rows`: the dictionary's check, then the rows'.
-use mathlib.Core.Path.{◌≡◌, sym, ap, ◌∙◌, subst}
+use mathlib.Core.Path.{◌≡◌, sym, ap, ◌∙◌}
 use native.Mathlib.Omega.{arith}
 use borrow.Author.Rules.{rules}
-use Rattle.records.specs.Run.{Run}
 use Rattle.records.specs.Told.{dictionary_told}
 use Rattle.records.proofs.Determined.{RanAs, told_ran, told_refused}
 use Rattle.automaton.specs.Building.{Accepted}
 use Rattle.tree.specs.Forms.{table_in}
+use Rattle.automaton.specs.Lending.{judged}
 use Rattle.automaton.specs.declared.lending.Judged.{Judged}
 use Rattle.judging.specs.Under.{words_under}
 use Rattle.judging.specs.Order.{rows_number, table_refusal}
-use Rattle.judging.specs.Judging.{passed, verdict, GuideOf}
+use Rattle.judging.specs.Judging.{passed, verdict}
 use Rattle.judging.proofs.Verdicts.{told_accepted}
 use Rattle.judging.proofs.judging.judge_rows.Statement.{statement}
 use Rattle.judging.proofs.judging.judge_rows.Tie as tie
@@ -36,18 +36,15 @@ good c = told_accepted (λ x. omega (arith, (checked c).before.before.before.sha
 
 -- by what the rows' check told
 abbrev rows : tie.After-judge-table → tie.After-known-told2
-rows c = c.before.before
+rows c = c.before
 
-judges : (c : tie.After-judge-table) (j : Judged) → let a = (entry (checked (rows c))).args in c.judge-table.result ≡ j
-    → (passed (rows_number j) ≡ verdict (λ X. table_refusal (table_in a.form X) a.table.now) (words_under a.map.now a.dict.now))
-    × GuideOf (words_under a.map.now a.dict.now) c.judge-table.new.1.1.1.1.1.0
+judges : (c : tie.After-judge-table) (j : Judged) → let a = (entry (checked (rows c))).args in
+    j ≡ judged (table_in a.form (found (rows c)).X) a.table.now
+    → passed (rows_number j) ≡ verdict (λ X. table_refusal (table_in a.form X) a.table.now) (words_under a.map.now a.dict.now)
 judges c j e =
     let a = (entry (checked (rows c))).args in
-    let (is, σ) = c.judge-table.ensures _ (good (rows c)) in (
-      ap (λ (k : Judged). passed (rows_number k)) (sym e ∙ is)
-          ∙ ap (verdict (λ X. table_refusal (table_in a.form X) a.table.now)) (sym (found (rows c)).is),
-      subst (λ (r : Run). GuideOf r c.judge-table.new.1.1.1.1.1.0) (sym (found (rows c)).is) σ,
-    )
+    ap (λ (k : Judged). passed (rows_number k)) e
+    ∙ ap (verdict (λ X. table_refusal (table_in a.form X) a.table.now)) (sym (found (rows c)).is)
 
 check-words-requires : tie.Need-check-words-requires
 check-words-requires c κs = search rules
@@ -62,7 +59,8 @@ cast-judge-table : tie.Need-overflow-cast-judge-table
 cast-judge-table c = search rules
 
 judge-table-requires : tie.Need-judge-table-requires
-judge-table-requires c κs = ((found c.before).X, good c.before)
+judge-table-requires c κs =
+    ((found c).X, good c)
 
 enum_told : tie.Need-enum-told
 enum_told c = search rules
@@ -77,17 +75,23 @@ returns : tie.Need-returns
 returns c =
     let d = c.before.before.before in
     let a = (entry d).args in
-    let e = sym (told_refused (words_under a.map.now a.dict.now) (ap dictionary_told (sym c.before.number.given.1) ∙ d.check-words.ensures)) in
-    (ap (verdict (λ X. table_refusal (table_in a.form X) a.table.now)) e, subst (λ (r : Run). GuideOf r a.guide.now) e tt)
+    ap (verdict (λ X. table_refusal (table_in a.form X) a.table.now))
+    (sym (told_refused (words_under a.map.now a.dict.now) (ap dictionary_told (sym c.before.number.given.1) ∙ d.check-words.ensures)))
 
 returns_2 : tie.Need-returns-2
-returns_2 c = judges c.before.before _ c.enum_told.given.1
+returns_2 c =
+    let d = c.before.before in
+    judges d _ (sym c.enum_told.given.1 ∙ d.judge-table.ensures _ (good (rows d)))
 
 returns-3 : tie.Need-returns-3
-returns-3 c = judges c.before.before _ c.enum-told2.given.1
+returns-3 c =
+    let d = c.before.before in
+    judges d _ (sym c.enum-told2.given.1 ∙ d.judge-table.ensures _ (good (rows d)))
 
 returns-4 : tie.Need-returns-4
-returns-4 c = judges c.before.before _ c.enum-told3.given.1
+returns-4 c =
+    let d = c.before.before in
+    judges d _ (sym c.enum-told3.given.1 ∙ d.judge-table.ensures _ (good (rows d)))
 
 pub judge-rows-spec : {M : Type 1} → statement M
 judge-rows-spec =

@@ -12,13 +12,13 @@ use Rattle.records.specs.Run.{Run}
 use Rattle.columns.proofs.Entry.{mapped_size}
 use Rattle.judging.specs.Under.{words_under}
 use Rattle.judging.specs.Order.{table_refusal, text_refusal, room_refusal, ◌and_then◌}
-use Rattle.judging.specs.Judging.{passed, verdict, GuideOf}
+use Rattle.judging.specs.Judging.{passed, verdict}
 use Rattle.judging.proofs.Verdicts.{passes, refused_before, then_test, long_text, short_states, short_counts, sizes_fit}
 use Rattle.judging.proofs.judging.judge_scan.Statement.{statement}
 use Rattle.judging.proofs.judging.judge_scan.Tie as tie
 
 abbrev entry : tie.After-judge-rows → tie.Start
-entry c = c.before.before.before.before.before.before.before.before
+entry c = c.before.before.before.before.before.before.before
 
 abbrev rows : tie.Start → Words → ℕ
 rows s X = table_refusal (table X) s.args.table.now
@@ -43,11 +43,11 @@ judged c = c.before.before
 
 -- what the sizes decide
 decides : (c : tie.After-enum-told) {n : ℕ} → let s = entry (judged c) in sizes s ≡ n
-    → (passed n ≡ verdict (λ X. rows s X and_then sizes s) (words s)) × GuideOf (words s) (judged c).judge-rows.new.1.1.1.1.0
+    → passed n ≡ verdict (λ X. rows s X and_then sizes s) (words s)
 decides c e =
     let s = entry (judged c) in
-    let (is, σ) = (judged c).judge-rows.ensures in
-    (then_test (rows s) (λ X. sizes s) (words s) (passes (rows s) (words s) (sym c.enum_told.given.1 ∙ is)) e, σ)
+    then_test (rows s) (λ X. sizes s) (words s)
+    (passes (rows s) (words s) (sym c.enum_told.given.1 ∙ (judged c).judge-rows.ensures)) e
 
 -- how long the text is
 size : (s : tie.Start) → length (text s) ≡ length s.args.text.now
@@ -88,8 +88,7 @@ returns-4 : tie.Need-returns-4
 returns-4 c =
     let d = c.before.before.before in
     let s = entry d in
-    let (is, σ) = d.judge-rows.ensures in
-    (refused_before (rows s) (λ X. sizes s) (words s) (sym c.before.number.given.1 ∙ is), σ)
+    refused_before (rows s) (λ X. sizes s) (words s) (sym c.before.number.given.1 ∙ d.judge-rows.ensures)
 
 returns-5 : tie.Need-returns-5
 returns-5 c =

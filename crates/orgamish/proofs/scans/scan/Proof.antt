@@ -17,14 +17,14 @@ use Rattle.columns.specs.Scans.{Room, Scans}
 use Rattle.judging.specs.Under.{words_under}
 use Rattle.judging.specs.Order.{scan_refusal}
 use Rattle.orgamish.specs.Calls.{flag}
-use Rattle.judging.proofs.Verdicts.{Passes, passes, passed_allowed, passed_guide}
+use Rattle.judging.proofs.Verdicts.{Passes, passes, passed_allowed}
 use Rattle.judging.proofs.Cleared.{room}
 use Rattle.orgamish.proofs.Called.{Came, came_tells, came_leaves, tells_refused, leaves_refused, counted_accepted}
 use Rattle.orgamish.proofs.scans.scan.Statement.{statement}
 use Rattle.orgamish.proofs.scans.scan.Tie as tie
 
 abbrev begun : tie.After-judge-scan → tie.Start
-begun c = c.before.before.before.before.before.before.before.before.before.before
+begun c = c.before.before.before.before.before.before.before.before.before
 
 abbrev text : tie.Start → Word
 text s = mapped s.args.map.now s.args.text.now
@@ -57,17 +57,16 @@ judged c = c.before.before
 found : (c : tie.After-enum-told) → let s = begun (judged c) in Passes (test s) (run s)
 found c =
     let s = begun (judged c) in
-    passes (test s) (run s) (sym c.enum_told.given.1 ∙ (judged c).judge-scan.ensures.0)
+    passes (test s) (run s) (sym c.enum_told.given.1 ∙ (judged c).judge-scan.ensures)
 
 fits : (c : tie.After-enum-told) → let s = begun (judged c) in
-    Room (found c).X (text s) s.args.table.now (judged c).judge-scan.new.1.1.1.1.1.1.0 (ss s) (cs s)
+    Room (found c).X (text s) s.args.table.now (ss s) (cs s)
 fits c =
     let d = judged c in
     let a = (begun d).args in
     room
     (passed_allowed a.map.now a.dict.now
-    (λ x. omega (arith, d.before.before.before.before.before.before.before.before.before.shared-slice-known.given x)) (found c))
-    (passed_guide (found c) d.judge-scan.ensures.1)
+    (λ x. omega (arith, d.before.before.before.before.before.before.before.before.shared-slice-known.given x)) (found c))
     (found c).clear
 
 came : (c : tie.After-enum-told) → let s = begun (judged c) in Came (test s) (run s) (found c).X 0
@@ -83,19 +82,19 @@ enum_told : tie.Need-enum-told
 enum_told c = search rules
 
 abbrev asked : tie.After-scan → tie.After-enum-told
-asked c = c.before.before.before.before
+asked c = c.before.before.before
 
 scans : (c : tie.After-scan) → let s = begun (judged (asked c)) in
     let r = c.scan.result in
-    Scans (found (asked c)).X (text s) (ss s) c.scan.new.1.1.1.1.0 (cs s) c.scan.new.1.1.1.1.1.0
+    Scans (found (asked c)).X (text s) (ss s) c.scan.new.1.1.1.0 (cs s) c.scan.new.1.1.1.1.0
     r.farthest r.count r.probes
 scans c = c.scan.ensures _ (fits (asked c))
 
 scan-requires : tie.Need-scan-requires
-scan-requires c κs = ((found c.before.before.before).X, fits c.before.before.before)
+scan-requires c κs = ((found c.before.before).X, fits c.before.before)
 
-cast-t24 : tie.Need-overflow-cast-t24
-cast-t24 c =
+cast-t21 : tie.Need-overflow-cast-t21
+cast-t21 c =
     let d = c.before.before.before.before.before.before in
     let k = asked d in
     omega (arith, (scans d).far, farthest_within (found k).X (text (begun (judged k))), (fits k).short)
@@ -110,7 +109,7 @@ returns : tie.Need-returns
 returns c =
     let d = c.before.before.before in
     let s = begun d in
-    let e = sym c.before.number.given.1 ∙ d.judge-scan.ensures.0 in (
+    let e = sym c.before.number.given.1 ∙ d.judge-scan.ensures in (
       tells_refused (test s) (values s) (run s) e,
       leaves_refused (test s) (states s) (ss s) (run s) e,
       leaves_refused (test s) (counts s) (cs s) (run s) e,
@@ -148,7 +147,7 @@ scan-spec =
     enum-known-number
     enum_told
     scan-requires
-    cast-t24
+    cast-t21
     same_length
     same-length-2
     returns

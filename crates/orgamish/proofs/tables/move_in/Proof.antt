@@ -16,7 +16,7 @@ use Rattle.orgamish.proofs.tables.move_in.Statement.{statement}
 use Rattle.orgamish.proofs.tables.move_in.Tie as tie
 
 abbrev entry : tie.After-judge-rows → tie.Start
-entry c = c.before.before.before.before.before.before
+entry c = c.before.before.before.before.before
 
 abbrev run : tie.Start → Run
 run s = words_under s.args.map.now s.args.dict.now
@@ -50,7 +50,7 @@ returns : tie.Need-returns
 returns c =
     let d = c.before.before.before in
     let s = entry d in
-    let e = refused_before (input s) (room s) (run s) (sym c.before.number.given.1 ∙ d.judge-rows.ensures.0) in (
+    let e = refused_before (input s) (room s) (run s) (sym c.before.number.given.1 ∙ d.judge-rows.ensures) in (
       tells_refused (λ X. input s X and_then room s X) measures (run s) e,
       leaves_refused (λ X. input s X and_then room s X) (after s) (lent s) (run s) e,
     )
@@ -64,7 +64,7 @@ returns_2 c =
     let d = chosen.before.before in
     let s = entry d in
     let built = c.before.before.build-in.ensures in
-    let p : Passes (input s) (run s) = passes (input s) (run s) (sym chosen.enum_told.given.1 ∙ d.judge-rows.ensures.0) in (
+    let p : Passes (input s) (run s) = passes (input s) (run s) (sym chosen.enum_told.given.1 ∙ d.judge-rows.ensures) in (
       built.0 ∙ then_tells (input s) (room s) (run s) p measures,
       built.1 ∙ then_leaves (input s) (room s) (run s) p (after s) (lent s),
     )
