@@ -1,5 +1,7 @@
 // Letters under a map, and the record that stands at an offset; marks and limits.
 // Of what is exported only `same_letters` requires anything, that both parts lie within the bytes; each contract decides the answer.
+#![tactic(auto)]
+
 mod letters;
 mod limits;
 mod record;

@@ -20,48 +20,48 @@ one_more l i h all =
     (λ k q. get_or-set_other l i k i 0 (λ e. absurd (omega arith)) ∙ all k q)
     (get_or-set_same l i i 0 h)
 
-abbrev invariant_loop : tie.invariant_loop
-invariant_loop map₀ i₀ map i = (length map ≡ 256) × (i ≤ 256) × ((k : ℕ) → k < i → get_or map k 0 ≡ k)
+abbrev invariant-loop-i : tie.invariant-loop-i
+invariant-loop-i map₀ i₀ map i = (length map ≡ 256) × (i ≤ 256) × ((k : ℕ) → k < i → get_or map k 0 ≡ k)
 
-abbrev decreases_loop : tie.decreases_loop
-decreases_loop map₀ i₀ map i = 256 - i
+abbrev decreases-loop-i : tie.decreases-loop-i
+decreases-loop-i map₀ i₀ map i = 256 - i
 
-loop_holds : tie.Need-loop-init invariant_loop decreases_loop
-loop_holds c = search rules
+loop-i-init : tie.Need-loop-i-init invariant-loop-i decreases-loop-i
+loop-i-init c = search rules
 
-cast-map : tie.Need-overflow-cast-map invariant_loop decreases_loop
-cast-map c = search rules
+overflow_cast-map : tie.Need-overflow_cast-map invariant-loop-i decreases-loop-i
+overflow_cast-map c = search rules
 
-array-write-map : tie.Need-array-write-map invariant_loop decreases_loop
-array-write-map c = search rules
+bounds-map-i : tie.Need-bounds-map-i invariant-loop-i decreases-loop-i
+bounds-map-i c = search rules
 
-add-i : tie.Need-overflow-add-i invariant_loop decreases_loop
-add-i c = search rules
+overflow_step-i : tie.Need-overflow_step-i invariant-loop-i decreases-loop-i
+overflow_step-i c = search rules
 
-loop_less : tie.Need-loop-smaller invariant_loop decreases_loop
-loop_less c = search rules
+loop-i-smaller : tie.Need-loop-i-smaller invariant-loop-i decreases-loop-i
+loop-i-smaller c = search rules
 
-loop_again : tie.Need-loop-preserved invariant_loop decreases_loop
-loop_again c =
-    let l = c.before.loop in
+loop-i-preserved : tie.Need-loop-i-preserved invariant-loop-i decreases-loop-i
+loop-i-preserved c =
+    let l = c.loop-i in
     (length-set l.map l.i l.i ∙ l.invariant.0, omega arith, one_more l.map l.i (omega arith) l.invariant.2)
 
-returns : tie.Need-returns invariant_loop decreases_loop
+returns : tie.Need-returns invariant-loop-i decreases-loop-i
 returns c =
-    let l = c.before.loop in
+    let l = c.loop-i in
     ext_get_or 0 l.map identity (l.invariant.0 ∙ sym identity-length)
     (λ k h. l.invariant.2 k (omega arith) ∙ sym (identity_at k (omega arith)))
 
-pub identity-spec : {M : Type 1} → statement M
-identity-spec =
+pub identity_spec : {M : Type 1} → statement M
+identity_spec =
     tie.close
     (tie.spec
-    invariant_loop
-    decreases_loop
-    loop_holds
-    cast-map
-    array-write-map
-    add-i
-    loop_less
-    loop_again
+    invariant-loop-i
+    decreases-loop-i
+    loop-i-init
+    overflow_cast-map
+    bounds-map-i
+    overflow_step-i
+    loop-i-smaller
+    loop-i-preserved
     returns)

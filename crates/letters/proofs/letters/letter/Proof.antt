@@ -7,20 +7,20 @@ use borrow.Author.Rules.{rules}
 use Rattle.letters.proofs.letters.letter.Statement.{statement}
 use Rattle.letters.proofs.letters.letter.Tie as tie
 
-wide-requires : tie.Need-wide-requires
-wide-requires c κs = search rules
+wide-i-requires : tie.Need-wide-i-requires
+wide-i-requires c κs = search rules
 
-shared-slice-read-result : tie.Need-shared-slice-read-result
-shared-slice-read-result c = search rules
+bounds-map-i : tie.Need-bounds-map-i
+bounds-map-i c = search rules
+
+returns-then-i-map : tie.Need-returns-then-i-map
+returns-then-i-map c = rw c.wide-i.ensures
 
 returns : tie.Need-returns
-returns c = rw c.before.before.wide.ensures
-
-returns_2 : tie.Need-returns-2
-returns_2 c =
-    let a = c.before.before.before.args in
+returns c =
+    let a = c.args in
     let h : length a.map.now ≤ a.x = omega arith in
     sym (get_or-eq_default a.map.now 0 h)
 
-pub letter-spec : {M : Type 1} → statement M
-letter-spec = tie.close (tie.spec wide-requires shared-slice-read-result returns returns_2)
+pub letter_spec : {M : Type 1} → statement M
+letter_spec = tie.close (tie.spec wide-i-requires bounds-map-i returns-then-i-map returns)

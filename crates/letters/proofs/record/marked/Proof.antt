@@ -10,48 +10,48 @@ use Rattle.letters.proofs.Records.{unmarked}
 use Rattle.letters.proofs.record.marked.Statement.{statement}
 use Rattle.letters.proofs.record.marked.Tie as tie
 
+returns-then-n-lt2 : tie.Need-returns-then-n-lt2
+returns-then-n-lt2 c = let a = c.args in sym (unmarked a.x a.y a.bytes.now a.at (omega arith))
+
+returns-then-n-at : tie.Need-returns-then-n-at
+returns-then-n-at c = let a = c.args in sym (unmarked a.x a.y a.bytes.now a.at (omega arith))
+
+bounds-bytes-at : tie.Need-bounds-bytes-at
+bounds-bytes-at c = search rules
+
+returns-then-bytes-at : tie.Need-returns-then-bytes-at
+returns-then-bytes-at c =
+    let a = c.args in
+    let h : a.at + 2 ≤ length a.bytes.now = omega arith in
+    simp (part_two a.bytes.now a.at h, ne_eqb _ _ c.if-bytes-at.true)
+
+overflow_add-at : tie.Need-overflow_add-at
+overflow_add-at c = search rules
+
+bounds-bytes-at-2 : tie.Need-bounds-bytes-at-2
+bounds-bytes-at-2 c = search rules
+
+returns-then-bytes-at-2 : tie.Need-returns-then-bytes-at-2
+returns-then-bytes-at-2 c =
+    let a = c.args in
+    let h : a.at + 2 ≤ length a.bytes.now = omega arith in
+    simp (part_two a.bytes.now a.at h, eq-eqb _ _ c.if-bytes-at.false, ne_eqb _ _ c.if-bytes-at-2.true)
+
 returns : tie.Need-returns
-returns c = let a = c.before.args in sym (unmarked a.x a.y a.bytes.now a.at (omega arith))
-
-returns_2 : tie.Need-returns-2
-returns_2 c = let a = c.before.before.args in sym (unmarked a.x a.y a.bytes.now a.at (omega arith))
-
-shared-slice-read-if3 : tie.Need-shared-slice-read-if3
-shared-slice-read-if3 c = search rules
-
-returns-3 : tie.Need-returns-3
-returns-3 c =
-    let a = c.before.before.before.before.args in
+returns c =
+    let a = c.args in
     let h : a.at + 2 ≤ length a.bytes.now = omega arith in
-    simp (part_two a.bytes.now a.at h, ne_eqb _ _ c.if3.true)
+    simp (part_two a.bytes.now a.at h, eq-eqb _ _ c.if-bytes-at.false, eq-eqb _ _ c.if-bytes-at-2.false)
 
-add-if4 : tie.Need-overflow-add-if4
-add-if4 c = search rules
-
-shared-slice-read-if4 : tie.Need-shared-slice-read-if4
-shared-slice-read-if4 c = search rules
-
-returns-4 : tie.Need-returns-4
-returns-4 c =
-    let a = c.before.before.before.before.before.before.args in
-    let h : a.at + 2 ≤ length a.bytes.now = omega arith in
-    simp (part_two a.bytes.now a.at h, eq-eqb _ _ c.before.before.if3.false, ne_eqb _ _ c.if4.true)
-
-returns-5 : tie.Need-returns-5
-returns-5 c =
-    let a = c.before.before.before.before.before.before.args in
-    let h : a.at + 2 ≤ length a.bytes.now = omega arith in
-    simp (part_two a.bytes.now a.at h, eq-eqb _ _ c.before.before.if3.false, eq-eqb _ _ c.if4.false)
-
-pub marked-spec : {M : Type 1} → statement M
-marked-spec =
+pub marked_spec : {M : Type 1} → statement M
+marked_spec =
     tie.close
     (tie.spec
-    returns
-    returns_2
-    shared-slice-read-if3
-    returns-3
-    add-if4
-    shared-slice-read-if4
-    returns-4
-    returns-5)
+    returns-then-n-lt2
+    returns-then-n-at
+    bounds-bytes-at
+    returns-then-bytes-at
+    overflow_add-at
+    bounds-bytes-at-2
+    returns-then-bytes-at-2
+    returns)

@@ -8,35 +8,35 @@ use Rattle.meaning.specs.Numbers.{longest_word}
 use Rattle.letters.proofs.record.sized_word.Statement.{statement}
 use Rattle.letters.proofs.record.sized_word.Tie as tie
 
-returns : tie.Need-returns
-returns c = simp (eq-eqb _ _ c.if1.true)
+returns-then-len-eq0 : tie.Need-returns-then-len-eq0
+returns-then-len-eq0 c = simp (eq-eqb _ _ c.if-len-eq0.true)
 
-returns_2 : tie.Need-returns-2
-returns_2 c =
-    let l : longest_word < c.before.before.args.len = omega (arith, c.if2.true) in
-    simp (ne_eqb _ _ c.before.if1.false, lt-ltb _ _ l)
+returns-then-len-gt-LONGEST_WORD : tie.Need-returns-then-len-gt-LONGEST_WORD
+returns-then-len-gt-LONGEST_WORD c =
+    let l : longest_word < c.args.len = omega (arith, c.if-len-gt-LONGEST_WORD.true) in
+    simp (ne_eqb _ _ c.if-len-eq0.false, lt-ltb _ _ l)
 
-sub-if3 : tie.Need-overflow-sub-if3
-sub-if3 c = search rules
+overflow_sub-bytes : tie.Need-overflow_sub-bytes
+overflow_sub-bytes c = search rules
 
-sub-if3-2 : tie.Need-overflow-sub-if3-2
-sub-if3-2 c = search rules
+overflow_sub-bytes-2 : tie.Need-overflow_sub-bytes-2
+overflow_sub-bytes-2 c = search rules
 
-returns-3 : tie.Need-returns-3
-returns-3 c =
+returns-then-bytes-at : tie.Need-returns-then-bytes-at
+returns-then-bytes-at c =
     let d = c.before in
-    let a = d.before.before.args in
-    let l : a.len ≤ longest_word = omega (arith, d.if2.false) in
+    let a = d.args in
+    let l : a.len ≤ longest_word = omega (arith, d.if-len-gt-LONGEST_WORD.false) in
     let h : length a.bytes.now < a.at + 3 + a.len = omega arith in
-    simp (ne_eqb _ _ d.before.if1.false, le-ltb longest_word _ l, lt-ltb _ _ h)
+    simp (ne_eqb _ _ d.if-len-eq0.false, le-ltb longest_word _ l, lt-ltb _ _ h)
 
-returns-4 : tie.Need-returns-4
-returns-4 c =
+returns : tie.Need-returns
+returns c =
     let d = c.before in
-    let a = d.before.before.args in
-    let l : a.len ≤ longest_word = omega (arith, d.if2.false) in
+    let a = d.args in
+    let l : a.len ≤ longest_word = omega (arith, d.if-len-gt-LONGEST_WORD.false) in
     let h : a.at + 3 + a.len ≤ length a.bytes.now = omega arith in
-    simp (ne_eqb _ _ d.before.if1.false, le-ltb longest_word _ l, le-ltb _ _ h)
+    simp (ne_eqb _ _ d.if-len-eq0.false, le-ltb longest_word _ l, le-ltb _ _ h)
 
-pub sized-word-spec : {M : Type 1} → statement M
-sized-word-spec = tie.close (tie.spec returns returns_2 sub-if3 sub-if3-2 returns-3 returns-4)
+pub sized_word_spec : {M : Type 1} → statement M
+sized_word_spec = tie.close (tie.spec returns-then-len-eq0 returns-then-len-gt-LONGEST_WORD overflow_sub-bytes overflow_sub-bytes-2 returns-then-bytes-at returns)

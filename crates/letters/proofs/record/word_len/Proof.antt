@@ -8,47 +8,47 @@ use Rattle.letters.proofs.Records.{measured}
 use Rattle.letters.proofs.record.word_len.Statement.{statement}
 use Rattle.letters.proofs.record.word_len.Tie as tie
 
-by : (c : tie.After-record-at) (r : Record) → c.record-at.result ≡ r
-    → let a = c.before.before.args in Measured a.bytes.now a.at (word_len r)
-by c r e = let a = c.before.before.args in measured a.bytes.now a.at r (sym e ∙ c.record-at.ensures)
+by : (c : tie.After-record_at) (r : Record) → c.record_at.result ≡ r
+    → let a = c.args in Measured a.bytes.now a.at (word_len r)
+by c r e = let a = c.args in measured a.bytes.now a.at r (sym e ∙ c.record_at.ensures)
 
-record-at-requires : tie.Need-record-at-requires
-record-at-requires c κs = search rules
+record_at-requires : tie.Need-record_at-requires
+record_at-requires c κs = search rules
 
-enum-known-len : tie.Need-enum-known-len
-enum-known-len c = search rules
+enum_known-len : tie.Need-enum_known-len
+enum_known-len c = search rules
 
-enum_told : tie.Need-enum-told
-enum_told c = search rules
+enum_told-1 : tie.Need-enum_told-1
+enum_told-1 c = search rules
 
-enum-told-2 : tie.Need-enum-told-2
-enum-told-2 c = search rules
+enum_told-in-Block : tie.Need-enum_told-in-Block
+enum_told-in-Block c = search rules
 
-enum-told-3 : tie.Need-enum-told-3
-enum-told-3 c = search rules
+enum_told-in-Bad : tie.Need-enum_told-in-Bad
+enum_told-in-Bad c = search rules
 
-returns : tie.Need-returns
-returns c = by c.before.before.before (Word _) c.before.len.given.1
+returns-in-Word : tie.Need-returns-in-Word
+returns-in-Word c = by c.before (Word _) c.in-Word.is
 
-returns_2 : tie.Need-returns-2
-returns_2 c = by c.before.before End c.enum_told.given.1
+returns-in-End : tie.Need-returns-in-End
+returns-in-End c = by c.before End c.in-End.is
 
-returns-3 : tie.Need-returns-3
-returns-3 c = by c.before.before Block c.enum-told2.given.1
+returns-in-Block : tie.Need-returns-in-Block
+returns-in-Block c = by c.before Block c.in-Block.is
 
-returns-4 : tie.Need-returns-4
-returns-4 c = by c.before.before (Bad _) c.enum-told3.given.1
+returns-in-Bad : tie.Need-returns-in-Bad
+returns-in-Bad c = by c.before (Bad _) c.in-Bad.is
 
-pub word-len-spec : {M : Type 1} → statement M
-word-len-spec =
+pub word_len_spec : {M : Type 1} → statement M
+word_len_spec =
     tie.close
     (tie.spec
-    record-at-requires
-    enum-known-len
-    enum_told
-    enum-told-2
-    enum-told-3
-    returns
-    returns_2
-    returns-3
-    returns-4)
+    record_at-requires
+    enum_known-len
+    enum_told-1
+    enum_told-in-Block
+    enum_told-in-Bad
+    returns-in-Word
+    returns-in-End
+    returns-in-Block
+    returns-in-Bad)
