@@ -1,4 +1,6 @@
 // The automaton table of a dictionary: made whole, judged where it is lent, or written there.
+#![tactic(auto)]
+
 mod borders;
 mod building;
 mod lending;

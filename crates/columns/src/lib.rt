@@ -1,4 +1,6 @@
 // The columns of a text: the state and the count at each of its positions.
+#![tactic(auto)]
+
 mod checking;
 mod entries;
 mod reaching;

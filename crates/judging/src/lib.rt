@@ -1,4 +1,6 @@
 // The tests that the calls share, with their refusals in order.
+#![tactic(auto)]
+
 mod judging;
 mod maps;
 

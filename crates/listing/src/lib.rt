@@ -1,4 +1,6 @@
 // The readings of a scanned text, listed one after the other in a buffer.
+#![tactic(auto)]
+
 mod changing;
 mod ending;
 mod given;

@@ -3,6 +3,8 @@
 // which shares no code with the library and whose main file says what the cases are and what is
 // mixed in, in which order. A refusal that is none of the expected is mixed in as 2, its number, its
 // place, and what would come of that call is left out.
+#![tactic(auto)]
+
 mod calls;
 mod family;
 mod mixing;

@@ -43,7 +43,7 @@ pub fn block<'a>(map: &[u8], book: &'a [u8], n: usize) -> &'a [u8]
 // Where that text stands in the book: its offset and its length, both 0 where there is no such block.
 pub fn block_part(map: &[u8], book: &[u8], n: usize) -> BlockPart
     ensures { Block book.now (texts_of (book_under map.now book.now)) n
-        (offset_of (bookUnder map.now book.now) n) result.start result.len }
+        (offset_of (book_under map.now book.now) n) result.start result.len }
 {
     if !is_map(map) {
         return BlockPart { start: 0, len: 0 };

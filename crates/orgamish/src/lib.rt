@@ -1,4 +1,6 @@
 // The public calls: each takes every input, ends, and is decided by its contract.
+#![tactic(auto)]
+
 mod answers;
 mod books;
 mod lists;

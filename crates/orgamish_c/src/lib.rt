@@ -1,5 +1,7 @@
 // The public calls under C names. Each asks the call of the same name and passes its answer on: the refusal's number, 0 for none, is
 // the result; its place and the values go to five lent numbers.
+#![tactic(auto)]
+
 mod books;
 mod lists;
 mod numbers;

@@ -1,4 +1,6 @@
 // Reads a book from standard input and prints the verdict on each of its blocks.
+#![tactic(auto)]
+
 mod blocks;
 mod lines;
 mod words;

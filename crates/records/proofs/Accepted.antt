@@ -64,7 +64,7 @@ past_place {m} {b} {e} {p} (step {n = n} {X} q s) (suc k) h =
     let l = word_size m b p n q in
     let i : suc k - 1 ≡ k = omega arith in
     past_next b (suc k) p n (omega arith) (sym (ap word_len q)) (λ z. absurd (omega (arith, f.nonempty)))
-    ∙ ap (λ (j : ℕ). past_words b j (p + 3 + n)) i ∙ past_place s k (omega arith) ∙ omega arith
+    ∙ ap (λ (j : ℕ). past_words b j (p + 3 + n)) i ∙ past_place {p = p + 3 + n} s k (omega arith) ∙ omega arith
 
 pub past_words_lem : {m b : List ℕ} {X : Words} {at : ℕ} → Good m b X at → (k : ℕ) → k ≤ length X → past_words b k 0 ≡ place X k
 past_words_lem g k h = past_place g.stands k h ∙ omega arith

@@ -1,5 +1,5 @@
 -- The index of the words so far, with one word more.
-use mathlib.Core.Path.{◌≡◌, sym, ◌∙◌, subst}
+use mathlib.Core.Path.{◌≡◌, ap, sym, ◌∙◌, subst}
 use mathlib.Core.Logic.{◌≢◌}
 use mathlib.Core.List.{List, [], ◌∷◌}
 use Prim.Native.Nat.{ℕ, suc, ◌≤◌, ◌<◌}
@@ -76,7 +76,9 @@ module _ {m b index : List ℕ} {X : Words} {at c q : ℕ} {w : Letters} (ι : I
 
   last_more : (d : ℕ) → d < classes → get_or (noted index c q at) d 0 ≡ up_to_last (snoc X w) d (suc (length X))
   last_more d h = elim (ℕ_discrete d c) [
-    | yes i ↦ rw (i, noted_last index c q at ι.long hc hq few, e, last_new X w, l)
+    | yes i ↦
+        ap (λ (k : ℕ). get_or (noted index c q at) k 0) i ∙ noted_last index c q at ι.long hc hq few ∙ sym l ∙ sym (last_new X w)
+        ∙ ap (λ (k : ℕ). up_to_last (snoc X w) k (suc (length X))) (sym (i ∙ e))
     | no i ↦
         noted_other index c q at ι.long hc hq few d (omega (arith, hq)) i (omega arith)
         ∙ ι.last d h ∙ sym (last_other X w d (λ j. i (sym (e ∙ j))))

@@ -111,7 +111,7 @@ fn nth_part(book: &[u8], start: usize, n: usize) -> Part
 // Where the text of block n stands in the book; 0 and 0 where the book is refused or has no such block.
 pub fn block_part(map: &[u8], book: &[u8], n: usize) -> Part
     ensures { Block book.now (texts_of (book_of map.now book.now)) n
-        (offset_of (bookOf map.now book.now) n) result.start result.len }
+        (offset_of (book_of map.now book.now) n) result.start result.len }
 {
     match check_book(map, book) {
         Book::Refused {

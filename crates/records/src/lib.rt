@@ -1,5 +1,7 @@
 // The stored forms: the dictionary and the book, runs of word records and of block records.
 // No call here requires anything, and each contract decides the answer for all bytes.
+#![tactic(auto)]
+
 mod book;
 mod dictionary;
 mod repeats;

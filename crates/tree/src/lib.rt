@@ -1,4 +1,6 @@
 // The rows of the automaton table: where their fields stand, the tree that words make of them, and the walks over it.
+#![tactic(auto)]
+
 mod chains;
 mod children;
 mod index;

@@ -6,24 +6,24 @@ use borrow.Author.Rules.{rules}
 use Rattle.records.proofs.book.block.Statement.{statement}
 use Rattle.records.proofs.book.block.Tie as tie
 
-block-part-requires : tie.Need-block-part-requires
-block-part-requires c κs = search rules
+block_part-part-requires : tie.Need-block_part-part-requires
+block_part-part-requires c κs = search rules
 
-add-end : tie.Need-overflow-add-end
-add-end c = search rules
+overflow_add-end : tie.Need-overflow_add-end
+overflow_add-end c = search rules
 
-sub-result : tie.Need-overflow-sub-result
-sub-result c = search rules
+slice_bounds-result-count : tie.Need-slice_bounds-result-count
+slice_bounds-result-count c = search rules
 
-part-result-start : tie.Need-slice-bounds-result-start
-part-result-start c = search rules
+slice_bounds-result-start : tie.Need-slice_bounds-result-start
+slice_bounds-result-start c = search rules
 
-part-result-end : tie.Need-slice-bounds-result-end
-part-result-end c = search rules
+slice_bounds-result-end : tie.Need-slice_bounds-result-end
+slice_bounds-result-end c = search rules
 
 returns : tie.Need-returns
 returns c =
-    let p = c.before.before.block-part in
+    let p = c.block_part-part in
     let r = p.result in
     let e : r.start + r.len - r.start ≡ r.len = omega arith in
     rw e p.ensures.is
@@ -31,4 +31,4 @@ returns c =
 pub block_spec : {M : Type 1} → statement M
 block_spec =
     tie.close
-    (tie.spec block-part-requires add-end sub-result part-result-start part-result-end returns)
+    (tie.spec block_part-part-requires overflow_add-end slice_bounds-result-count slice_bounds-result-start slice_bounds-result-end returns)

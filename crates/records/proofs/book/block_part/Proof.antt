@@ -10,63 +10,56 @@ use Rattle.records.proofs.Books.{GoodBook, book_accepted}
 use Rattle.records.proofs.book.block_part.Statement.{statement}
 use Rattle.records.proofs.book.block_part.Tie as tie
 
-abbrev entry : tie.After-check-book → tie.Start
-entry c = c.before.before.before
-
 -- the book that was found
-found : (c : tie.After-known-told)
-    → let a = (entry c.before.before.before).args in
-    let g = c.before.start.given.0 in
-    OpenedAs (book a.map.now a.book.now) g.0 g.1.0 g.1.1.0
-found c = told_opened _ (ap book_told (sym c.before.start.given.1) ∙ c.before.before.before.check-book.ensures)
+found : (c : tie.In-Blocks)
+    → let a = c.args in
+    OpenedAs (book a.map.now a.book.now) c.in-Blocks.words c.in-Blocks.blocks c.in-Blocks.start
+found c = told_opened _ (ap book_told (sym c.in-Blocks.is) ∙ c.check_book.ensures)
 
-good : (c : tie.After-known-told)
-    → let a = (entry c.before.before.before).args in
-    GoodBook a.map.now a.book.now (found c).X c.before.start.given.0.1.1.0 (found c).T
+good : (c : tie.In-Blocks)
+    → let a = c.args in
+    GoodBook a.map.now a.book.now (found c).X c.in-Blocks.start (found c).T
 good c = book_accepted _ _ (found c).is
 
-check-book-requires : tie.Need-check-book-requires
-check-book-requires c κs = search rules
+check_book-requires : tie.Need-check_book-requires
+check_book-requires c κs = search rules
 
-enum_told : tie.Need-enum-told
-enum_told c = search rules
+enum_told-1 : tie.Need-enum_told-1
+enum_told-1 c = search rules
 
-enum-known-start : tie.Need-enum-known-start
-enum-known-start c = search rules
+enum_known-start : tie.Need-enum_known-start
+enum_known-start c = search rules
 
-cast-nth-part : tie.Need-overflow-cast-nth-part
-cast-nth-part c = search rules
+overflow_cast-start : tie.Need-overflow_cast-start
+overflow_cast-start c = search rules
 
-nth-part-requires : tie.Need-nth-part-requires
-nth-part-requires c κs = (good c).words.good.within
+nth_part-requires : tie.Need-nth_part-requires
+nth_part-requires c κs = (good c).words.good.within
 
 -- what a book is asked for
 abbrev Told : tie.Start → ℕ → ℕ → Opened → Type 0
 Told s start len o = let a = s.args in Block a.book.now (texts_of o) a.n (offset_of o a.n) start len
 
-returns : tie.Need-returns
-returns c =
-    let d = c.before.before in
-    let a = (entry d).args in
+returns-in-Refused : tie.Need-returns-in-Refused
+returns-in-Refused c =
+    let a = c.args in
     let o = book a.map.now a.book.now in
-    let e = told_shut o (ap book_told (sym c.enum_told.given.1) ∙ d.check-book.ensures) in
-    subst (Told (entry d) 0 0) (sym e) (record { stands = refl; length_is = refl; within = omega arith; is = refl })
+    let e = told_shut o (ap book_told (sym c.in-Refused.is) ∙ c.check_book.ensures) in
+    subst (Told c.before.before.before.before 0 0) (sym e) (record { stands = refl; length_is = refl; within = omega arith; is = refl })
 
-returns_2 : tie.Need-returns-2
-returns_2 c =
-    let d = c.before in
-    let s = entry d.before.before.before in
-    let r = c.nth-part.result in
-    subst (Told s r.start r.len) (sym (found d).is) (c.nth-part.ensures _ (good d).are)
+returns-in-Blocks : tie.Need-returns-in-Blocks
+returns-in-Blocks c =
+    let r = c.nth_part.result in
+    subst (Told c.before.before.before.before.before r.start r.len) (sym (found c.before).is) (c.nth_part.ensures _ (good c.before).are)
 
-pub block-part-spec : {M : Type 1} → statement M
-block-part-spec =
+pub block_part_spec : {M : Type 1} → statement M
+block_part_spec =
     tie.close
     (tie.spec
-    check-book-requires
-    enum_told
-    enum-known-start
-    cast-nth-part
-    nth-part-requires
-    returns
-    returns_2)
+    check_book-requires
+    enum_told-1
+    enum_known-start
+    overflow_cast-start
+    nth_part-requires
+    returns-in-Refused
+    returns-in-Blocks)

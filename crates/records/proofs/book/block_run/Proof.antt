@@ -8,79 +8,77 @@ use Rattle.records.proofs.Blocks.{Going, sets_out, ended, stopped, next}
 use Rattle.records.proofs.book.block_run.Statement.{statement}
 use Rattle.records.proofs.book.block_run.Tie as tie
 
-abbrev invariant_loop : tie.invariant_loop
-invariant_loop book start words blocks₀ at₀ blocks at = Going book start blocks at
+abbrev invariant-loop-number : tie.invariant-loop-number
+invariant-loop-number book start words blocks₀ at₀ blocks at = Going book start blocks at
 
-abbrev decreases_loop : tie.decreases_loop
-decreases_loop book start words blocks₀ at₀ blocks at = length book - blocks
+abbrev decreases-loop-number : tie.decreases-loop-number
+decreases-loop-number book start words blocks₀ at₀ blocks at = length book - blocks
 
 -- the walk past a block
-past : (c : tie.After-known-told2 invariant_loop decreases_loop)
-    → let l = c.before.before.before.before.loop in
-    let a = c.before.before.before.before.before.before.args in
-    Going a.book.now a.start (l.blocks + 1) (l.at + 4 + c.before.len.given.0.0)
-past c = let d = c.before.before.before in next d.before.loop.invariant _ (sym c.before.len.given.1 ∙ d.block_at.ensures)
+past : (c : tie.In-Text invariant-loop-number decreases-loop-number)
+    → let l = c.loop-number in
+    let a = c.args in
+    Going a.book.now a.start (l.blocks + 1) (l.at + 4 + c.in-Text.len)
+past c = next c.loop-number.invariant _ (sym c.in-Text.is ∙ c.block_at.ensures)
 
-loop_holds : tie.Need-loop-init invariant_loop decreases_loop
-loop_holds c = sets_out _ _ c.before.requires.0
+loop-number-init : tie.Need-loop-number-init invariant-loop-number decreases-loop-number
+loop-number-init c = sets_out _ _ c.requires.0
 
-block-at-requires : tie.Need-block-at-requires invariant_loop decreases_loop
-block-at-requires c κs = search rules
+block_at-requires : tie.Need-block_at-requires invariant-loop-number decreases-loop-number
+block_at-requires c κs = search rules
 
-enum_told : tie.Need-enum-told invariant_loop decreases_loop
-enum_told c = search rules
+enum_told-1 : tie.Need-enum_told-1 invariant-loop-number decreases-loop-number
+enum_told-1 c = search rules
 
-returns : tie.Need-returns invariant_loop decreases_loop
-returns c = let d = c.before.before in ended d.before.loop.invariant _ (sym c.enum_told.given.1 ∙ d.block_at.ensures)
+returns-in-End : tie.Need-returns-in-End invariant-loop-number decreases-loop-number
+returns-in-End c = ended c.loop-number.invariant _ (sym c.in-End.is ∙ c.block_at.ensures)
 
-enum-known-number : tie.Need-enum-known-number invariant_loop decreases_loop
-enum-known-number c = search rules
+enum_known-number : tie.Need-enum_known-number invariant-loop-number decreases-loop-number
+enum_known-number c = search rules
 
-add-t9 : tie.Need-overflow-add-t9 invariant_loop decreases_loop
-add-t9 c =
-    let g = c.before.before.before.before.loop.invariant in
-    let a = c.before.before.before.before.before.before in
-    omega (arith, g.offset, g.within, a.requires)
+overflow_add-result : tie.Need-overflow_add-result invariant-loop-number decreases-loop-number
+overflow_add-result c =
+    let g = c.loop-number.invariant in
+    omega (arith, g.offset, g.within, c.requires)
 
-returns_2 : tie.Need-returns-2 invariant_loop decreases_loop
-returns_2 c =
-    let d = c.before.before.before in
-    stopped d.before.loop.invariant _ _ (sym c.before.number.given.1 ∙ d.block_at.ensures)
+returns-in-Bad : tie.Need-returns-in-Bad invariant-loop-number decreases-loop-number
+returns-in-Bad c =
+    stopped c.loop-number.invariant _ _ (sym c.in-Bad.is ∙ c.block_at.ensures)
 
-enum-known-len : tie.Need-enum-known-len invariant_loop decreases_loop
-enum-known-len c = search rules
+enum_known-len : tie.Need-enum_known-len invariant-loop-number decreases-loop-number
+enum_known-len c = search rules
 
-add-blocks : tie.Need-overflow-add-blocks invariant_loop decreases_loop
-add-blocks c = let g = past c in omega (arith, g.offset, g.within, c.before.before.before.before.before.before.requires)
+overflow_add-blocks : tie.Need-overflow_add-blocks invariant-loop-number decreases-loop-number
+overflow_add-blocks c = let g = past c in omega (arith, g.offset, g.within, c.requires)
 
-add_at : tie.Need-overflow-add-at invariant_loop decreases_loop
-add_at c = let g = past c in omega (arith, g.within)
+overflow_add-at : tie.Need-overflow_add-at invariant-loop-number decreases-loop-number
+overflow_add-at c = let g = past c in omega (arith, g.within)
 
-add-at-2 : tie.Need-overflow-add-at-2 invariant_loop decreases_loop
-add-at-2 c = let g = past c in omega (arith, g.within)
+overflow_add-at-in-Text : tie.Need-overflow_add-at-in-Text invariant-loop-number decreases-loop-number
+overflow_add-at-in-Text c = let g = past c in omega (arith, g.within)
 
-loop_less : tie.Need-loop-smaller invariant_loop decreases_loop
-loop_less c = let g = past c in omega (arith, g.offset, g.within)
+loop-number-smaller : tie.Need-loop-number-smaller invariant-loop-number decreases-loop-number
+loop-number-smaller c = let g = past c in omega (arith, g.offset, g.within)
 
-loop_again : tie.Need-loop-preserved invariant_loop decreases_loop
-loop_again c = past c
+loop-number-preserved : tie.Need-loop-number-preserved invariant-loop-number decreases-loop-number
+loop-number-preserved c = past c
 
-pub block-run-spec : {M : Type 1} → statement M
-block-run-spec =
+pub block_run_spec : {M : Type 1} → statement M
+block_run_spec =
     tie.close
     (tie.spec
-    invariant_loop
-    decreases_loop
-    loop_holds
-    block-at-requires
-    enum_told
-    returns
-    enum-known-number
-    add-t9
-    returns_2
-    enum-known-len
-    add-blocks
-    add_at
-    add-at-2
-    loop_less
-    loop_again)
+    invariant-loop-number
+    decreases-loop-number
+    loop-number-init
+    block_at-requires
+    enum_told-1
+    returns-in-End
+    enum_known-number
+    overflow_add-result
+    returns-in-Bad
+    enum_known-len
+    overflow_add-blocks
+    overflow_add-at
+    overflow_add-at-in-Text
+    loop-number-smaller
+    loop-number-preserved)

@@ -8,19 +8,18 @@ use Rattle.meaning.specs.Numbers.{longest_book}
 use Rattle.records.proofs.book.book_words.Statement.{statement}
 use Rattle.records.proofs.book.book_words.Tie as tie
 
-returns : tie.Need-returns
-returns c =
-    let h : longest_book < length c.before.before.before.args.book.now = omega (arith, c.if1.true) in
+returns-then-book-gt-LONGEST_BOOK : tie.Need-returns-then-book-gt-LONGEST_BOOK
+returns-then-book-gt-LONGEST_BOOK c =
+    let h : longest_book < length c.args.book.now = omega (arith, c.if-book-gt-LONGEST_BOOK.true) in
     simp (lt-ltb _ _ h)
 
-word-run-requires : tie.Need-word-run-requires
-word-run-requires c κs = search rules
+word_run-requires : tie.Need-word_run-requires
+word_run-requires c κs = search rules
 
-returns_2 : tie.Need-returns-2
-returns_2 c =
-    let d = c.before in
-    let h : length d.before.before.before.args.book.now ≤ longest_book = omega (arith, d.if1.false) in
-    simp (le-ltb longest_book _ h) c.word-run.ensures
+returns : tie.Need-returns
+returns c =
+    let h : length c.args.book.now ≤ longest_book = omega (arith, c.if-book-gt-LONGEST_BOOK.false) in
+    simp (le-ltb longest_book _ h) c.word_run.ensures
 
-pub book-words-spec : {M : Type 1} → statement M
-book-words-spec = tie.close (tie.spec returns word-run-requires returns_2)
+pub book_words_spec : {M : Type 1} → statement M
+book_words_spec = tie.close (tie.spec returns-then-book-gt-LONGEST_BOOK word_run-requires returns)

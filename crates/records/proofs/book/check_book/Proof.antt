@@ -10,52 +10,47 @@ use Rattle.records.proofs.Books.{words_accepted, blocks_tell_lem}
 use Rattle.records.proofs.book.check_book.Statement.{statement}
 use Rattle.records.proofs.book.check_book.Tie as tie
 
-abbrev entry : tie.After-book-words → tie.Start
-entry c = c.before.before.before
-
 -- the words that were found
-found : (c : tie.After-known-told2)
-    → let a = (entry c.before.before.before).args in
-    let g = c.before.words.given.0 in
-    RanAs (book_words a.map.now a.book.now) g.0 g.1.0 g.1.1.0
-found c = told_ran _ (ap dictionary_told (sym c.before.words.given.1) ∙ c.before.before.before.book-words.ensures)
+found : (c : tie.In-Words)
+    → let a = c.args in
+    RanAs (book_words a.map.now a.book.now) c.in-Words.words c.in-Words.letters c.in-Words.end
+found c = told_ran _ (ap dictionary_told (sym c.in-Words.is) ∙ c.book_words.ensures)
 
-book-words-requires : tie.Need-book-words-requires
-book-words-requires c κs = search rules
+book_words-requires : tie.Need-book_words-requires
+book_words-requires c κs = search rules
 
-enum-known-number : tie.Need-enum-known-number
-enum-known-number c = search rules
+enum_known-number : tie.Need-enum_known-number
+enum_known-number c = search rules
 
-enum-known-words : tie.Need-enum-known-words
-enum-known-words c = search rules
+enum_known-words : tie.Need-enum_known-words
+enum_known-words c = search rules
 
-block-run-requires : tie.Need-block-run-requires
-block-run-requires c κs =
-    let a = (entry c.before.before.before).args in
+block_run-requires : tie.Need-block_run-requires
+block_run-requires c κs =
+    let a = c.args in
     let d = found c in
     let g = words_accepted a.map.now a.book.now d.is in
     (g.good.within, g.size, omega (arith, g.good.few, d.count))
 
-returns : tie.Need-returns
-returns c =
-    let d = c.before.before.before in
-    let a = (entry d).args in
+returns-in-Refused : tie.Need-returns-in-Refused
+returns-in-Refused c =
+    let a = c.args in
     let words = book_words a.map.now a.book.now in
     ap (λ (r : Run). book_tells (with_blocks a.book.now r))
-    (sym (told_refused words (ap dictionary_told (sym c.before.number.given.1) ∙ d.book-words.ensures)))
+    (sym (told_refused words (ap dictionary_told (sym c.in-Refused.is) ∙ c.book_words.ensures)))
 
-returns_2 : tie.Need-returns-2
-returns_2 c =
-    let a = (entry c.before.before.before.before).args in
+returns-in-Words : tie.Need-returns-in-Words
+returns-in-Words c =
+    let a = c.args in
     c.block_run.ensures ∙ blocks_tell_lem a.book.now (found c.before)
 
-pub check-book-spec : {M : Type 1} → statement M
-check-book-spec =
+pub check_book_spec : {M : Type 1} → statement M
+check_book_spec =
     tie.close
     (tie.spec
-    book-words-requires
-    enum-known-number
-    enum-known-words
-    block-run-requires
-    returns
-    returns_2)
+    book_words-requires
+    enum_known-number
+    enum_known-words
+    block_run-requires
+    returns-in-Refused
+    returns-in-Words)

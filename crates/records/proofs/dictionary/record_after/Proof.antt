@@ -17,121 +17,110 @@ use Rattle.records.proofs.Indexing.{indexed_more, read_other, read_word}
 use Rattle.records.proofs.dictionary.record_after.Statement.{statement}
 use Rattle.records.proofs.dictionary.record_after.Tie as tie
 
--- in the arm of a word record
-abbrev entry : tie.After-known-told2 → tie.Start
-entry c = c.before.before.before.before.before.before
+abbrev len : tie.In-Word → ℕ
+len c = c.in-Word.len
 
-abbrev len : tie.After-known-told2 → ℕ
-len c = c.before.len.given.0.0
+a_word : (c : tie.In-Word) → record_at c.args.bytes.now c.args.at ≡ Word (len c)
+a_word c = sym c.record_at.ensures ∙ c.in-Word.is
 
-a_word : (c : tie.After-known-told2) → record_at (entry c).args.bytes.now (entry c).args.at ≡ Word (len c)
-a_word c = sym c.before.before.before.record-at.ensures ∙ c.before.len.given.1
-
-fits : (c : tie.After-known-told2) → FitsWord (entry c).args.bytes.now (entry c).args.at (len c)
+fits : (c : tie.In-Word) → FitsWord c.args.bytes.now c.args.at (len c)
 fits c = word_fits (a_word c)
 
-record-at-requires : tie.Need-record-at-requires
-record-at-requires c κs = search rules
+record_at-requires : tie.Need-record_at-requires
+record_at-requires c κs = search rules
 
-enum_told : tie.Need-enum-told
-enum_told c = search rules
+enum_told-1 : tie.Need-enum_told-1
+enum_told-1 c = search rules
 
-enum-told-2 : tie.Need-enum-told-2
-enum-told-2 c = search rules
+enum_told-in-Block : tie.Need-enum_told-in-Block
+enum_told-in-Block c = search rules
 
-enum-known-number : tie.Need-enum-known-number
-enum-known-number c = search rules
+enum_known-number : tie.Need-enum_known-number
+enum_known-number c = search rules
 
-enum-known-len : tie.Need-enum-known-len
-enum-known-len c = search rules
+enum_known-len : tie.Need-enum_known-len
+enum_known-len c = search rules
 
-cast-sum : tie.Need-overflow-cast-sum
-cast-sum c = omega (arith, (fits c).short)
+overflow_cast-sum : tie.Need-overflow_cast-sum
+overflow_cast-sum c = omega (arith, (fits c).short)
 
-add-sum : tie.Need-overflow-add-sum
-add-sum c = let κ = (entry c).requires.1 in omega (arith, (fits c).short, κ.small, κ.before.sum)
+overflow_add-sum : tie.Need-overflow_add-sum
+overflow_add-sum c = let κ = c.requires.1 in omega (arith, (fits c).short, κ.small, κ.before.sum)
 
-returns : tie.Need-returns
-returns c = λ X κ.
+returns-then-words-ge-MOST_WORDS : tie.Need-returns-then-words-ge-MOST_WORDS
+returns-then-words-ge-MOST_WORDS c = λ X κ.
     let h : most_words ≤ length X = omega (arith, κ.before.count) in
     read_other tt (simp (a_word c.before, le-leb _ _ h))
 
-returns_2 : tie.Need-returns-2
-returns_2 c = λ X κ.
-    let d = c.before.before in
+returns-then-sum-gt-MOST_LETTERS : tie.Need-returns-then-sum-gt-MOST_LETTERS
+returns-then-sum-gt-MOST_LETTERS c = λ X κ.
     let h : length X < most_words = omega (arith, κ.before.count) in
-    let l : most_letters < total X + len d = omega (arith, κ.before.sum) in
-    read_other tt (simp (a_word d, lt-leb _ _ h, lt-ltb _ _ l))
+    let l : most_letters < total X + len c.before.before = omega (arith, κ.before.sum) in
+    read_other tt (simp (a_word c.before.before, lt-leb _ _ h, lt-ltb _ _ l))
 
-add-class-of : tie.Need-overflow-add-class-of
-add-class-of c = let d = c.before.before in omega (arith, (fits d).within, (entry d).well-formed.1.0.0)
+overflow_add-at : tie.Need-overflow_add-at
+overflow_add-at c = omega (arith, (fits c.before.before).within, c.well_formed.1.0.0)
 
-class-of-requires : tie.Need-class-of-requires
-class-of-requires c κs = (fits c.before.before).within
+class_of-class-requires : tie.Need-class_of-class-requires
+class_of-class-requires c κs = (fits c.before.before).within
 
 repeated-requires : tie.Need-repeated-requires
 repeated-requires c κs =
-    let d = c.before.before.before.before in
-    (a_word d, c.before.class_of.ensures, ((entry d).requires.0, (entry d).requires.1.indexed))
+    (a_word c.before.before.before, c.class_of-class.ensures, (c.requires.0, c.requires.1.indexed))
 
-returns-3 : tie.Need-returns-3
-returns-3 c = λ X κ.
-    let d = c.before.before.before.before.before.before in
+returns-then-repeated : tie.Need-returns-then-repeated
+returns-then-repeated c = λ X κ.
     let h : length X < most_words = omega (arith, κ.before.count) in
-    let l : total X + len d ≤ most_letters = omega (arith, κ.before.sum) in
-    read_other tt (simp (a_word d, lt-leb _ _ h, le-ltb _ _ l, sym (c.before.repeated.ensures X κ.indexed) ∙ c.if3.true))
+    let l : total X + len c.before.before.before.before.before ≤ most_letters = omega (arith, κ.before.sum) in
+    read_other tt (simp (a_word c.before.before.before.before.before, lt-leb _ _ h, le-ltb _ _ l, sym (c.repeated.ensures X κ.indexed) ∙ c.if-repeated.true))
 
-add-note : tie.Need-overflow-add-note
-add-note c = search rules
+overflow_add-words : tie.Need-overflow_add-words
+overflow_add-words c = search rules
 
 note-requires : tie.Need-note-requires
 note-requires c κs =
-    let e = c.before.before.before.before in
-    let κ = (entry e.before.before.before).requires.1 in
-    let small : e.class_of.result < classes = rw e.class_of.ensures (class_below _) in
-    let low : (entry e.before.before.before).args.at < 65536 = omega (arith, stands_end κ.before.stands, κ.indexed.few, κ.small) in
-    (small, omega arith, omega (arith, e.before.before.if1.false), low)
+    let κ = c.requires.1 in
+    let small : c.class_of-class.result < classes = rw c.class_of-class.ensures (class_below _) in
+    let low : c.args.at < 65536 = omega (arith, stands_end κ.before.stands, κ.indexed.few, κ.small) in
+    (small, omega arith, omega (arith, c.if-words-ge-MOST_WORDS.false), low)
 
-returns-4 : tie.Need-returns-4
-returns-4 c = λ X κ. read_other tt (simp (sym c.before.before.record-at.ensures ∙ c.enum_told.given.1))
+returns-in-End : tie.Need-returns-in-End
+returns-in-End c = λ X κ. read_other tt (simp (sym c.record_at.ensures ∙ c.in-End.is))
 
-returns-5 : tie.Need-returns-5
-returns-5 c = λ X κ. read_other tt (simp (sym c.before.before.record-at.ensures ∙ c.enum-told2.given.1))
+returns-in-Block : tie.Need-returns-in-Block
+returns-in-Block c = λ X κ. read_other tt (simp (sym c.record_at.ensures ∙ c.in-Block.is))
 
-returns-6 : tie.Need-returns-6
-returns-6 c = λ X κ. read_other tt (simp (sym c.before.before.before.record-at.ensures ∙ c.before.number.given.1))
+returns-in-Bad : tie.Need-returns-in-Bad
+returns-in-Bad c = λ X κ. read_other tt (simp (sym c.record_at.ensures ∙ c.in-Bad.is))
 
-returns-7 : tie.Need-returns-7
-returns-7 c = λ X κ.
-    let r = c.before.before.before in
-    let e = r.before.before in
-    let d = e.before.before.before in
+returns-else-repeated : tie.Need-returns-else-repeated
+returns-else-repeated c = λ X κ.
     let h : length X < most_words = omega (arith, κ.before.count) in
-    let l : total X + len d ≤ most_letters = omega (arith, κ.before.sum) in
-    read_word (simp (a_word d, lt-leb _ _ h, le-ltb _ _ l, sym (r.repeated.ensures X κ.indexed) ∙ c.before.before.if3.false))
-    (indexed_more κ.indexed (omega (arith, κ.before.count)) (omega (arith, e.before.before.if1.false))
-    (holds _ _ _ _ (a_word d)) e.class_of.ensures c.note.ensures)
+    let l : total X + len c.before.before.before.before.before.before.before ≤ most_letters = omega (arith, κ.before.sum) in
+    read_word (simp (a_word c.before.before.before.before.before.before.before, lt-leb _ _ h, le-ltb _ _ l, sym (c.repeated.ensures X κ.indexed) ∙ c.if-repeated.false))
+    (indexed_more κ.indexed (omega (arith, κ.before.count)) (omega (arith, c.if-words-ge-MOST_WORDS.false))
+    (holds _ _ _ _ (a_word c.before.before.before.before.before.before.before)) c.class_of-class.ensures c.note.ensures)
 
-pub record-after-spec : {M : Type 1} → statement M
-record-after-spec =
+pub record_after_spec : {M : Type 1} → statement M
+record_after_spec =
     tie.close
     (tie.spec
-    record-at-requires
-    enum_told
-    enum-told-2
-    enum-known-number
-    enum-known-len
-    cast-sum
-    add-sum
-    returns
-    returns_2
-    add-class-of
-    class-of-requires
+    record_at-requires
+    enum_told-1
+    enum_told-in-Block
+    enum_known-number
+    enum_known-len
+    overflow_cast-sum
+    overflow_add-sum
+    returns-then-words-ge-MOST_WORDS
+    returns-then-sum-gt-MOST_LETTERS
+    overflow_add-at
+    class_of-class-requires
     repeated-requires
-    returns-3
-    add-note
+    returns-then-repeated
+    overflow_add-words
     note-requires
-    returns-4
-    returns-5
-    returns-6
-    returns-7)
+    returns-in-End
+    returns-in-Block
+    returns-in-Bad
+    returns-else-repeated)

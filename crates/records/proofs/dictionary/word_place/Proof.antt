@@ -10,64 +10,62 @@ use Rattle.records.proofs.Walking.{past_stop, past_next}
 use Rattle.records.proofs.dictionary.word_place.Statement.{statement}
 use Rattle.records.proofs.dictionary.word_place.Tie as tie
 
-abbrev invariant_loop : tie.invariant_loop
-invariant_loop bytes k at₀ left₀ at left = (at ≤ length bytes) × (past_words bytes k 0 ≡ past_words bytes left at)
+abbrev invariant-loop-left : tie.invariant-loop-left
+invariant-loop-left bytes k at₀ left₀ at left = (at ≤ length bytes) × (past_words bytes k 0 ≡ past_words bytes left at)
 
-abbrev decreases_loop : tie.decreases_loop
-decreases_loop bytes k at₀ left₀ at left = left
+abbrev decreases-loop-left : tie.decreases-loop-left
+decreases-loop-left bytes k at₀ left₀ at left = left
 
-loop_holds : tie.Need-loop-init invariant_loop decreases_loop
-loop_holds c = search rules
+loop-left-init : tie.Need-loop-left-init invariant-loop-left decreases-loop-left
+loop-left-init c = search rules
 
-word-len-requires : tie.Need-word-len-requires invariant_loop decreases_loop
-word-len-requires c κs = search rules
+word_len-len-requires : tie.Need-word_len-len-requires invariant-loop-left decreases-loop-left
+word_len-len-requires c κs = search rules
 
-returns : tie.Need-returns invariant_loop decreases_loop
-returns c =
-    let d = c.before in
-    let l = d.before.before.loop in
-    let bytes = d.before.before.before.before.args.bytes.now in
-    sym (l.invariant.1 ∙ past_stop bytes l.left l.at (omega arith) (sym d.word_len.ensures.is ∙ c.if1.true))
+returns-then-len-eq0 : tie.Need-returns-then-len-eq0 invariant-loop-left decreases-loop-left
+returns-then-len-eq0 c =
+    let l = c.loop-left in
+    let bytes = c.args.bytes.now in
+    sym (l.invariant.1 ∙ past_stop bytes l.left l.at (omega arith) (sym c.word_len-len.ensures.is ∙ c.if-len-eq0.true))
 
-add_at : tie.Need-overflow-add-at invariant_loop decreases_loop
-add_at c = search rules
+overflow_add-at : tie.Need-overflow_add-at invariant-loop-left decreases-loop-left
+overflow_add-at c = search rules
 
-add-at-2 : tie.Need-overflow-add-at-2 invariant_loop decreases_loop
-add-at-2 c = search rules
+overflow_add-at-in-loop-left : tie.Need-overflow_add-at-in-loop-left invariant-loop-left decreases-loop-left
+overflow_add-at-in-loop-left c = search rules
 
-sub-left : tie.Need-overflow-sub-left invariant_loop decreases_loop
-sub-left c = search rules
+overflow_sub-left : tie.Need-overflow_sub-left invariant-loop-left decreases-loop-left
+overflow_sub-left c = search rules
 
-loop_less : tie.Need-loop-smaller invariant_loop decreases_loop
-loop_less c = search rules
+loop-left-smaller : tie.Need-loop-left-smaller invariant-loop-left decreases-loop-left
+loop-left-smaller c = search rules
 
-loop_again : tie.Need-loop-preserved invariant_loop decreases_loop
-loop_again c =
-    let d = c.before in
-    let l = d.before.before.loop in
-    let bytes = d.before.before.before.before.args.bytes.now in (
-      d.word_len.ensures.within (omega arith),
-      l.invariant.1 ∙ past_next bytes l.left l.at _ (omega arith) d.word_len.ensures.is c.if1.false,
+loop-left-preserved : tie.Need-loop-left-preserved invariant-loop-left decreases-loop-left
+loop-left-preserved c =
+    let l = c.loop-left in
+    let bytes = c.args.bytes.now in (
+      c.word_len-len.ensures.within (omega arith),
+      l.invariant.1 ∙ past_next bytes l.left l.at _ (omega arith) c.word_len-len.ensures.is c.if-len-eq0.false,
     )
 
-returns_2 : tie.Need-returns-2 invariant_loop decreases_loop
-returns_2 c =
-    let l = c.before.loop in
+returns : tie.Need-returns invariant-loop-left decreases-loop-left
+returns c =
+    let l = c.loop-left in
     let z : l.left ≡ 0 = omega arith in
     sym (l.invariant.1 ∙ rw z)
 
-pub word-place-spec : {M : Type 1} → statement M
-word-place-spec =
+pub word_place_spec : {M : Type 1} → statement M
+word_place_spec =
     tie.close
     (tie.spec
-    invariant_loop
-    decreases_loop
-    loop_holds
-    word-len-requires
-    returns
-    add_at
-    add-at-2
-    sub-left
-    loop_less
-    loop_again
-    returns_2)
+    invariant-loop-left
+    decreases-loop-left
+    loop-left-init
+    word_len-len-requires
+    returns-then-len-eq0
+    overflow_add-at
+    overflow_add-at-in-loop-left
+    overflow_sub-left
+    loop-left-smaller
+    loop-left-preserved
+    returns)

@@ -11,136 +11,126 @@ use Rattle.records.proofs.Walking.{Walking, starts, known, offset, ended, stoppe
 use Rattle.records.proofs.dictionary.word_run.Statement.{statement}
 use Rattle.records.proofs.dictionary.word_run.Tie as tie
 
-abbrev invariant_loop : tie.invariant_loop
-invariant_loop map bytes book words₀ letters₀ at₀ index₀ words letters at index = Walking book map bytes index words letters at
+abbrev invariant-loop-number : tie.invariant-loop-number
+invariant-loop-number map bytes book words₀ letters₀ at₀ index₀ words letters at index = Walking book map bytes index words letters at
 
-abbrev decreases_loop : tie.decreases_loop
-decreases_loop map bytes book words₀ letters₀ at₀ index₀ words letters at index = suc most_words - words
+abbrev decreases-loop-number : tie.decreases-loop-number
+decreases-loop-number map bytes book words₀ letters₀ at₀ index₀ words letters at index = suc most_words - words
 
 -- the record that the code has read is the definition's, and its word is in the index
-read : (c : tie.After-record-after invariant_loop decreases_loop)
-    → let l = c.before.before.loop in
-    let a = c.before.before.before.before.before.args in
-    ReadAfter a.map.now a.bytes.now c.record-after.new.1.1.0 l.at l.invariant.X c.record-after.result
-read c = let w = c.before.before.loop.invariant in c.record-after.ensures w.X (known w)
+read : (c : tie.After-record_after invariant-loop-number decreases-loop-number)
+    → let l = c.loop-number in
+    let a = c.args in
+    ReadAfter a.map.now a.bytes.now c.record_after.new.index l.at l.invariant.X c.record_after.result
+read c = let w = c.loop-number.invariant in c.record_after.ensures w.X (known w)
 
 -- the walk past a word
-past : (c : tie.After-known-told2 invariant_loop decreases_loop)
-    → let d = c.before.before.before in
-    let l = d.before.before.loop in
-    let a = d.before.before.before.before.before.args in
-    let n = c.before.len.given.0.0 in
-    Walking a.book a.map.now a.bytes.now d.record-after.new.1.1.0 (l.words + 1) (l.letters + n) (l.at + 3 + n)
+past : (c : tie.In-Word invariant-loop-number decreases-loop-number)
+    → let l = c.loop-number in
+    let a = c.args in
+    let n = c.in-Word.len in
+    Walking a.book a.map.now a.bytes.now c.record_after.new.index (l.words + 1) (l.letters + n) (l.at + 3 + n)
 past c =
-    let d = c.before.before.before in
-    let e = c.before.len.given.1 in
-    next d.before.before.loop.invariant _ (sym e ∙ (read d).is) ((read d).indexed _ e)
+    let e = c.in-Word.is in
+    next c.loop-number.invariant _ (sym e ∙ (read c.before).is) ((read c.before).indexed _ e)
 
-loop_holds : tie.Need-loop-init invariant_loop decreases_loop
-loop_holds c = starts _ _ _
+loop-number-init : tie.Need-loop-number-init invariant-loop-number decreases-loop-number
+loop-number-init c = starts _ _ _
 
-record-after-requires : tie.Need-record-after-requires invariant_loop decreases_loop
-record-after-requires c κs = let w = c.before.loop.invariant in (w.X, known w)
+record_after-requires : tie.Need-record_after-requires invariant-loop-number decreases-loop-number
+record_after-requires c κs = let w = c.loop-number.invariant in (w.X, known w)
 
-enum_told : tie.Need-enum-told invariant_loop decreases_loop
-enum_told c = search rules
+enum_told-1 : tie.Need-enum_told-1 invariant-loop-number decreases-loop-number
+enum_told-1 c = search rules
 
-accepted-requires : tie.Need-accepted-requires invariant_loop decreases_loop
+accepted-requires : tie.Need-accepted-requires invariant-loop-number decreases-loop-number
 accepted-requires c κs =
-    let w = c.before.before.before.before.loop.invariant in
+    let w = c.loop-number.invariant in
     omega (arith, offset w, w.good.few, w.good.small, w.count, w.sum)
 
-returns : tie.Need-returns invariant_loop decreases_loop
-returns c =
-    let e = c.before in
-    let d = e.before.before in
-    ap dictionary_told c.accepted.ensures ∙ ended d.before.before.loop.invariant (sym e.enum_told.given.1 ∙ (read d).is) refl
+returns-in-End : tie.Need-returns-in-End invariant-loop-number decreases-loop-number
+returns-in-End c =
+    ap dictionary_told c.accepted.ensures ∙ ended c.loop-number.invariant (sym c.in-End.is ∙ (read c.before.before).is) refl
 
-enum-told-2 : tie.Need-enum-told-2 invariant_loop decreases_loop
-enum-told-2 c = search rules
+enum_told-in-Block : tie.Need-enum_told-in-Block invariant-loop-number decreases-loop-number
+enum_told-in-Block c = search rules
 
-accepted-requires-2 : tie.Need-accepted-requires-2 invariant_loop decreases_loop
-accepted-requires-2 c κs =
-    let w = c.before.before.before.before.before.loop.invariant in
+accepted-requires-then-book : tie.Need-accepted-requires-then-book invariant-loop-number decreases-loop-number
+accepted-requires-then-book c κs =
+    let w = c.loop-number.invariant in
     omega (arith, offset w, w.good.few, w.good.small, w.count, w.sum)
 
-returns_2 : tie.Need-returns-2 invariant_loop decreases_loop
-returns_2 c =
-    let e = c.before.before in
-    let d = e.before.before in
-    ap dictionary_told c.accepted2.ensures
-    ∙ ended d.before.before.loop.invariant (sym e.enum-told2.given.1 ∙ (read d).is) (rw c.before.if1.true)
+returns-then-book : tie.Need-returns-then-book invariant-loop-number decreases-loop-number
+returns-then-book c =
+    ap dictionary_told c.accepted-then-book.ensures
+    ∙ ended c.loop-number.invariant (sym c.in-Block.is ∙ (read c.before.before.before).is) (rw c.if-book.true)
 
-refused-requires : tie.Need-refused-requires invariant_loop decreases_loop
+refused-requires : tie.Need-refused-requires invariant-loop-number decreases-loop-number
 refused-requires c κs = search rules
 
-returns-3 : tie.Need-returns-3 invariant_loop decreases_loop
-returns-3 c =
-    let e = c.before.before in
-    let d = e.before.before in
+returns-in-Block : tie.Need-returns-in-Block invariant-loop-number decreases-loop-number
+returns-in-Block c =
     ap dictionary_told c.refused.ensures
-    ∙ stopped d.before.before.loop.invariant (sym e.enum-told2.given.1 ∙ (read d).is) (rw c.before.if1.false)
+    ∙ stopped c.loop-number.invariant (sym c.in-Block.is ∙ (read c.before.before.before).is) (rw c.if-book.false)
 
-enum-known-number : tie.Need-enum-known-number invariant_loop decreases_loop
-enum-known-number c = search rules
+enum_known-number : tie.Need-enum_known-number invariant-loop-number decreases-loop-number
+enum_known-number c = search rules
 
-refused-requires-2 : tie.Need-refused-requires-2 invariant_loop decreases_loop
-refused-requires-2 c κs = search rules
+refused-requires-in-Bad : tie.Need-refused-requires-in-Bad invariant-loop-number decreases-loop-number
+refused-requires-in-Bad c κs = search rules
 
-returns-4 : tie.Need-returns-4 invariant_loop decreases_loop
-returns-4 c =
-    let e = c.before.before in
-    let d = e.before.before in
-    ap dictionary_told c.refused2.ensures ∙ stopped d.before.before.loop.invariant (sym e.number.given.1 ∙ (read d).is) refl
+returns-in-Bad : tie.Need-returns-in-Bad invariant-loop-number decreases-loop-number
+returns-in-Bad c =
+    ap dictionary_told c.refused-in-Bad.ensures ∙ stopped c.loop-number.invariant (sym c.in-Bad.is ∙ (read c.before.before).is) refl
 
-enum-known-len : tie.Need-enum-known-len invariant_loop decreases_loop
-enum-known-len c = search rules
+enum_known-len : tie.Need-enum_known-len invariant-loop-number decreases-loop-number
+enum_known-len c = search rules
 
-add_words : tie.Need-overflow-add-words invariant_loop decreases_loop
-add_words c = let w = past c in omega (arith, w.good.few, w.count)
+overflow_add-words : tie.Need-overflow_add-words invariant-loop-number decreases-loop-number
+overflow_add-words c = let w = past c in omega (arith, w.good.few, w.count)
 
-cast-letters : tie.Need-overflow-cast-letters invariant_loop decreases_loop
-cast-letters c = let w = past c in omega (arith, w.good.small, w.sum)
+overflow_cast-letters : tie.Need-overflow_cast-letters invariant-loop-number decreases-loop-number
+overflow_cast-letters c = let w = past c in omega (arith, w.good.small, w.sum)
 
-add-letters : tie.Need-overflow-add-letters invariant_loop decreases_loop
-add-letters c = let w = past c in omega (arith, w.good.small, w.sum)
+overflow_add-letters : tie.Need-overflow_add-letters invariant-loop-number decreases-loop-number
+overflow_add-letters c = let w = past c in omega (arith, w.good.small, w.sum)
 
-add_at : tie.Need-overflow-add-at invariant_loop decreases_loop
-add_at c = let w = past c in omega (arith, w.good.within)
+overflow_add-at : tie.Need-overflow_add-at invariant-loop-number decreases-loop-number
+overflow_add-at c = let w = past c in omega (arith, w.good.within)
 
-add-at-2 : tie.Need-overflow-add-at-2 invariant_loop decreases_loop
-add-at-2 c = let w = past c in omega (arith, w.good.within)
+overflow_add-at-in-Word : tie.Need-overflow_add-at-in-Word invariant-loop-number decreases-loop-number
+overflow_add-at-in-Word c = let w = past c in omega (arith, w.good.within)
 
-loop_less : tie.Need-loop-smaller invariant_loop decreases_loop
-loop_less c = let w = past c in omega (arith, w.good.few, w.count)
+loop-number-smaller : tie.Need-loop-number-smaller invariant-loop-number decreases-loop-number
+loop-number-smaller c = let w = past c in omega (arith, w.good.few, w.count)
 
-loop_again : tie.Need-loop-preserved invariant_loop decreases_loop
-loop_again c = past c
+loop-number-preserved : tie.Need-loop-number-preserved invariant-loop-number decreases-loop-number
+loop-number-preserved c = past c
 
-pub word-run-spec : {M : Type 1} → statement M
-word-run-spec =
+pub word_run_spec : {M : Type 1} → statement M
+word_run_spec =
     tie.close
     (tie.spec
-    invariant_loop
-    decreases_loop
-    loop_holds
-    record-after-requires
-    enum_told
+    invariant-loop-number
+    decreases-loop-number
+    loop-number-init
+    record_after-requires
+    enum_told-1
     accepted-requires
-    returns
-    enum-told-2
-    accepted-requires-2
-    returns_2
+    returns-in-End
+    enum_told-in-Block
+    accepted-requires-then-book
+    returns-then-book
     refused-requires
-    returns-3
-    enum-known-number
-    refused-requires-2
-    returns-4
-    enum-known-len
-    add_words
-    cast-letters
-    add-letters
-    add_at
-    add-at-2
-    loop_less
-    loop_again)
+    returns-in-Block
+    enum_known-number
+    refused-requires-in-Bad
+    returns-in-Bad
+    enum_known-len
+    overflow_add-words
+    overflow_cast-letters
+    overflow_add-letters
+    overflow_add-at
+    overflow_add-at-in-Word
+    loop-number-smaller
+    loop-number-preserved)

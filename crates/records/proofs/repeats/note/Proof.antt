@@ -3,59 +3,59 @@ use borrow.Author.Rules.{rules}
 use Rattle.records.proofs.repeats.note.Statement.{statement}
 use Rattle.records.proofs.repeats.note.Tie as tie
 
-wide-requires : tie.Need-wide-requires
-wide-requires c κs = search rules
+wide-i-requires : tie.Need-wide-i-requires
+wide-i-requires c κs = search rules
 
-mul-index : tie.Need-overflow-mul-index
-mul-index c = search rules
+offset_bounds-index-class : tie.Need-offset_bounds-index-class
+offset_bounds-index-class c = search rules
 
-element-copy-out-index : tie.Need-element-copy-out-index
-element-copy-out-index c = search rules
+bounds-index-class : tie.Need-bounds-index-class
+bounds-index-class c = search rules
 
-add-index : tie.Need-overflow-add-index
-add-index c = search rules
+overflow_add-index : tie.Need-overflow_add-index
+overflow_add-index c = search rules
 
-mul-index-2 : tie.Need-overflow-mul-index-2
-mul-index-2 c = search rules
+offset_bounds-index-i : tie.Need-offset_bounds-index-i
+offset_bounds-index-i c = search rules
 
-element-write-index : tie.Need-element-write-index
-element-write-index c = search rules
+bounds-index-i : tie.Need-bounds-index-i
+bounds-index-i c = search rules
 
-mul-index-3 : tie.Need-overflow-mul-index-3
-mul-index-3 c = search rules
+offset_bounds-index-class-2 : tie.Need-offset_bounds-index-class-2
+offset_bounds-index-class-2 c = search rules
 
-element-write-index-2 : tie.Need-element-write-index-2
-element-write-index-2 c = search rules
+bounds-index-class-2 : tie.Need-bounds-index-class-2
+bounds-index-class-2 c = search rules
 
-cast-index : tie.Need-overflow-cast-index
-cast-index c = search rules
+overflow_cast-index : tie.Need-overflow_cast-index
+overflow_cast-index c = search rules
 
-add-index-2 : tie.Need-overflow-add-index-2
-add-index-2 c = search rules
+overflow_add-index-2 : tie.Need-overflow_add-index-2
+overflow_add-index-2 c = search rules
 
-mul-index-4 : tie.Need-overflow-mul-index-4
-mul-index-4 c = search rules
+offset_bounds-index-i-2 : tie.Need-offset_bounds-index-i-2
+offset_bounds-index-i-2 c = search rules
 
-element-write-index-3 : tie.Need-element-write-index-3
-element-write-index-3 c = search rules
+bounds-index-i-2 : tie.Need-bounds-index-i-2
+bounds-index-i-2 c = search rules
 
 returns : tie.Need-returns
-returns c = rw c.before.wide.ensures
+returns c = rw c.wide-i.ensures
 
-pub note-spec : {M : Type 1} → statement M
-note-spec =
+pub note_spec : {M : Type 1} → statement M
+note_spec =
     tie.close
     (tie.spec
-    wide-requires
-    mul-index
-    element-copy-out-index
-    add-index
-    mul-index-2
-    element-write-index
-    mul-index-3
-    element-write-index-2
-    cast-index
-    add-index-2
-    mul-index-4
-    element-write-index-3
+    wide-i-requires
+    offset_bounds-index-class
+    bounds-index-class
+    overflow_add-index
+    offset_bounds-index-i
+    bounds-index-i
+    offset_bounds-index-class-2
+    bounds-index-class-2
+    overflow_cast-index
+    overflow_add-index-2
+    offset_bounds-index-i-2
+    bounds-index-i-2
     returns)

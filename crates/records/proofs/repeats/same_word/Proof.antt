@@ -10,47 +10,45 @@ use Rattle.records.proofs.repeats.same_word.Tie as tie
 fits : (c : tie.Start) → FitsWord c.args.bytes.now c.args.at c.args.n
 fits c = word_fits c.requires.0
 
-add-if1 : tie.Need-overflow-add-if1
-add-if1 c = search rules
+overflow_add-p : tie.Need-overflow_add-p
+overflow_add-p c = search rules
 
-shared-slice-read-if1 : tie.Need-shared-slice-read-if1
-shared-slice-read-if1 c = search rules
+bounds-bytes-p : tie.Need-bounds-bytes-p
+bounds-bytes-p c = search rules
 
-add-if1-2 : tie.Need-overflow-add-if1-2
-add-if1-2 c = let e = c.before.before.before in omega (arith, (fits e).within, e.well-formed.1.0.0)
+overflow_add-at : tie.Need-overflow_add-at
+overflow_add-at c = omega (arith, (fits c.before.before.before).within, c.well_formed.1.0.0)
 
-shared-slice-read-if1-2 : tie.Need-shared-slice-read-if1-2
-shared-slice-read-if1-2 c = omega (arith, (fits c.before.before.before.before).within)
+bounds-bytes-at : tie.Need-bounds-bytes-at
+bounds-bytes-at c = omega (arith, (fits c.before.before.before.before).within)
+
+returns-then-bytes-p : tie.Need-returns-then-bytes-p
+returns-then-bytes-p c = λ w h. sym (other_size h (fits c.before.before.before.before.before) c.if-bytes-p.true)
+
+overflow_add-p-2 : tie.Need-overflow_add-p-2
+overflow_add-p-2 c = omega (arith, (fits c.before.before.before.before.before).within, c.well_formed.1.0.0)
+
+overflow_add-at-2 : tie.Need-overflow_add-at-2
+overflow_add-at-2 c = omega (arith, (fits c.before.before.before.before.before).within, c.well_formed.1.0.0)
+
+same_letters-requires : tie.Need-same_letters-requires
+same_letters-requires c κs =
+    omega (arith, letters_there c.requires.1.1 (fits c.before.before.before.before.before) c.if-bytes-p.false, (fits c.before.before.before.before.before).within)
 
 returns : tie.Need-returns
-returns c = λ w h. sym (other_size h (fits c.before.before.before.before.before) c.if1.true)
+returns c = λ w h.
+    c.same_letters.ensures ∙ same_size h (fits c.before.before.before.before.before.before) c.if-bytes-p.false
 
-add-same-letters : tie.Need-overflow-add-same-letters
-add-same-letters c = let e = c.before.before.before.before.before in omega (arith, (fits e).within, e.well-formed.1.0.0)
-
-add-same-letters-2 : tie.Need-overflow-add-same-letters-2
-add-same-letters-2 c = let e = c.before.before.before.before.before in omega (arith, (fits e).within, e.well-formed.1.0.0)
-
-same-letters-requires : tie.Need-same-letters-requires
-same-letters-requires c κs =
-    let e = c.before.before.before.before.before in
-    omega (arith, letters_there e.requires.1.1 (fits e) c.if1.false, (fits e).within)
-
-returns_2 : tie.Need-returns-2
-returns_2 c = λ w h.
-    let e = c.before in
-    c.same-letters.ensures ∙ same_size h (fits e.before.before.before.before.before) e.if1.false
-
-pub same-word-spec : {M : Type 1} → statement M
-same-word-spec =
+pub same_word_spec : {M : Type 1} → statement M
+same_word_spec =
     tie.close
     (tie.spec
-    add-if1
-    shared-slice-read-if1
-    add-if1-2
-    shared-slice-read-if1-2
-    returns
-    add-same-letters
-    add-same-letters-2
-    same-letters-requires
-    returns_2)
+    overflow_add-p
+    bounds-bytes-p
+    overflow_add-at
+    bounds-bytes-at
+    returns-then-bytes-p
+    overflow_add-p-2
+    overflow_add-at-2
+    same_letters-requires
+    returns)

@@ -4,21 +4,21 @@ use Rattle.tree.proofs.Chain.{counted_row, counts_border, counts_itself}
 use Rattle.tree.proofs.chains.count_chain.Statement.{statement}
 use Rattle.tree.proofs.chains.count_chain.Tie as tie
 
-chain-length-requires : tie.Need-chain-length-requires
-chain-length-requires c κs = counted_row c.before.requires.2
+chain_length-shorter-requires : tie.Need-chain_length-shorter-requires
+chain_length-shorter-requires c κs = counted_row c.requires.2
 
 word-requires : tie.Need-word-requires
 word-requires c κs = search rules
 
+returns-then-word-eq-NONE : tie.Need-returns-then-word-eq-NONE
+returns-then-word-eq-NONE c X S h = counts_border h c.word.ensures.is c.chain_length-shorter.ensures.is c.if-word-eq-NONE.true
+
+overflow_add-result : tie.Need-overflow_add-result
+overflow_add-result c = search rules
+
 returns : tie.Need-returns
-returns c X S h = counts_border h c.before.word.ensures.is c.before.before.chain_length.ensures.is c.if1.true
+returns c X S h = counts_itself h c.word.ensures.is c.chain_length-shorter.ensures.is c.if-word-eq-NONE.false
 
-add-result : tie.Need-overflow-add-result
-add-result c = search rules
-
-returns_2 : tie.Need-returns-2
-returns_2 c X S h = counts_itself h c.before.word.ensures.is c.before.before.chain_length.ensures.is c.if1.false
-
-pub count-chain-spec : {M : Type 1} → statement M
-count-chain-spec =
-    tie.close (tie.spec chain-length-requires word-requires returns add-result returns_2)
+pub count_chain_spec : {M : Type 1} → statement M
+count_chain_spec =
+    tie.close (tie.spec chain_length-shorter-requires word-requires returns-then-word-eq-NONE overflow_add-result returns)

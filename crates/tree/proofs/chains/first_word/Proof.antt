@@ -7,14 +7,14 @@ use Rattle.tree.proofs.chains.first_word.Tie as tie
 word-requires : tie.Need-word-requires
 word-requires c κs = search rules
 
-returns : tie.Need-returns
-returns c X S h = first_itself h c.before.word.ensures.is c.if1.true
+returns-then-word-ne-NONE : tie.Need-returns-then-word-ne-NONE
+returns-then-word-ne-NONE c X S h = first_itself h c.word.ensures.is c.if-word-ne-NONE.true
 
 link-requires : tie.Need-link-requires
 link-requires c κs = search rules
 
-returns_2 : tie.Need-returns-2
-returns_2 c X S h = first_link h c.before.before.word.ensures.is c.before.if1.false c.link.ensures.is
+returns : tie.Need-returns
+returns c X S h = first_link h c.word.ensures.is c.if-word-ne-NONE.false c.link.ensures.is
 
-pub first-word-spec : {M : Type 1} → statement M
-first-word-spec = tie.close (tie.spec word-requires returns link-requires returns_2)
+pub first_word_spec : {M : Type 1} → statement M
+first_word_spec = tie.close (tie.spec word-requires returns-then-word-ne-NONE link-requires returns)

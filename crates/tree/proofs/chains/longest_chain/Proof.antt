@@ -8,41 +8,42 @@ use Rattle.meaning.specs.Words.{Words}
 use Rattle.tree.specs.Tree.{Whole}
 use Rattle.tree.proofs.Walk.{state_row}
 use Rattle.tree.proofs.Chain.{LongestTo, longest_start, longest_on, longest_end}
+use Rattle.tree.proofs.chains.longest_chain.Lts.{then-r-k, else-r-k}
 use Rattle.tree.proofs.chains.longest_chain.Statement.{statement}
 use Rattle.tree.proofs.chains.longest_chain.Tie as tie
 
-abbrev invariant_loop : tie.invariant_loop
-invariant_loop table n r₀ s₀ r s = (X S : Words) → Whole X S table → n ≡ length S → LongestTo X S r s
+abbrev invariant-loop-s : tie.invariant-loop-s
+invariant-loop-s table n r₀ s₀ r s = (X S : Words) → Whole X S table → n ≡ length S → LongestTo X S r s
 
-abbrev decreases_loop : tie.decreases_loop
-decreases_loop table n r₀ s₀ r s = n - s
+abbrev decreases-loop-s : tie.decreases-loop-s
+decreases-loop-s table n r₀ s₀ r s = n - s
 
-loop_holds : tie.Need-loop-init invariant_loop decreases_loop
-loop_holds c X S ω e = longest_start X S
+loop-s-init : tie.Need-loop-s-init invariant-loop-s decreases-loop-s
+loop-s-init c X S ω e = longest_start X S
 
-chain-length-requires : tie.Need-chain-length-requires invariant_loop decreases_loop
-chain-length-requires c κs =
-    let (X, S, ω, e) = c.before.before.before.requires in
-    state_row ω.tree (omega (arith, e, c.loop-test.true))
+chain_length-k-requires : tie.Need-chain_length-k-requires invariant-loop-s decreases-loop-s
+chain_length-k-requires c κs =
+    let (X, S, ω, e) = c.requires in
+    state_row ω.tree (omega (arith, e, c.loop-s-test.true))
 
-add-s : tie.Need-overflow-add-s invariant_loop decreases_loop
-add-s c = omega arith
+overflow_add-s : tie.Need-overflow_add-s invariant-loop-s decreases-loop-s
+overflow_add-s c = omega arith
 
-loop_less : tie.Need-loop-smaller invariant_loop decreases_loop
-loop_less c = omega arith
+loop-s-smaller : tie.Need-loop-s-smaller invariant-loop-s decreases-loop-s
+loop-s-smaller c = omega arith
 
-loop_again : tie.Need-loop-preserved invariant_loop decreases_loop
-loop_again c X S ω e =
-    let turn = c.before.before in
-    let l : turn.before.loop.s < length S = omega (arith, e, turn.loop-test.true) in
-    let k = c.before.chain_length.ensures.is ∙ ω.chains _ l in
-    longest_on (turn.before.loop.invariant X S ω e) l
-    (⊎_elim (λ w. omega (arith, w.0.taken, w.1)) (λ w. omega (arith, w.0.left, w.1)) c.if1.branch)
+loop-s-preserved : tie.Need-loop-s-preserved invariant-loop-s decreases-loop-s
+loop-s-preserved c X S ω e =
+    let turn = c in
+    let l : turn.loop-s.s < length S = omega (arith, e, turn.loop-s-test.true) in
+    let k = c.chain_length-k.ensures.is ∙ ω.chains _ l in
+    longest_on (turn.loop-s.invariant X S ω e) l
+    (elim c.if-r-k.branch [ then-r-k w ↦ omega arith | else-r-k w ↦ omega arith ])
 
-returns : tie.Need-returns invariant_loop decreases_loop
-returns c X S ω e = longest_end (c.before.loop.invariant X S ω e) (omega (arith, e, c.loop-test.false))
+returns : tie.Need-returns invariant-loop-s decreases-loop-s
+returns c X S ω e = longest_end (c.loop-s.invariant X S ω e) (omega (arith, e, c.loop-s-test.false))
 
-pub longest-chain-spec : {M : Type 1} → statement M
-longest-chain-spec =
+pub longest_chain_spec : {M : Type 1} → statement M
+longest_chain_spec =
     tie.close
-    (tie.spec invariant_loop decreases_loop loop_holds chain-length-requires add-s loop_less loop_again returns)
+    (tie.spec invariant-loop-s decreases-loop-s loop-s-init chain_length-k-requires overflow_add-s loop-s-smaller loop-s-preserved returns)

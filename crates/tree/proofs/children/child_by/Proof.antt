@@ -6,27 +6,27 @@ use Rattle.tree.proofs.Walk.{state_row, sought_row, there, not_there}
 use Rattle.tree.proofs.children.child_by.Statement.{statement}
 use Rattle.tree.proofs.children.child_by.Tie as tie
 
-seek-requires : tie.Need-seek-requires
-seek-requires c κs = search rules
+seek-place-requires : tie.Need-seek-place-requires
+seek-place-requires c κs = search rules
 
 letter-requires : tie.Need-letter-requires
 letter-requires c κs =
-    let at = c.before.before.before.requires.0.2 in
-    state_row at.tree (sought_row at.tree (c.before.seek.ensures _ _ at) c.if1.true).inside
+    let at = c.requires.0.2 in
+    state_row at.tree (sought_row at.tree (c.seek-place.ensures _ _ at) c.if-next-ne-NONE.true).inside
 
-returns : tie.Need-returns
-returns c X S at =
-    sym (ap stored (there at.tree (c.before.before.before.seek.ensures X S at) c.before.before.if1.true
-    (sym c.before.letter.ensures.is ∙ c.if2.true)))
+returns-then-letter-a : tie.Need-returns-then-letter-a
+returns-then-letter-a c X S at =
+    sym (ap stored (there at.tree (c.seek-place.ensures X S at) c.if-next-ne-NONE.true
+    (sym c.letter.ensures.is ∙ c.if-letter-a.true)))
 
-returns_2 : tie.Need-returns-2
-returns_2 c X S at =
-    sym (ap stored (not_there at.tree (c.before.before.before.seek.ensures X S at) c.before.before.before.before.before.requires.1
-    (λ d e. c.if2.false (c.before.letter.ensures.is ∙ e))))
+returns-else-letter-a : tie.Need-returns-else-letter-a
+returns-else-letter-a c X S at =
+    sym (ap stored (not_there at.tree (c.seek-place.ensures X S at) c.requires.1
+    (λ d e. c.if-letter-a.false (c.letter.ensures.is ∙ e))))
 
-returns-3 : tie.Need-returns-3
-returns-3 c X S at =
-    sym (ap stored (not_there at.tree (c.before.seek.ensures X S at) c.before.before.before.requires.1 (λ d e. d c.if1.false)))
+returns-else-next-ne-NONE : tie.Need-returns-else-next-ne-NONE
+returns-else-next-ne-NONE c X S at =
+    sym (ap stored (not_there at.tree (c.seek-place.ensures X S at) c.requires.1 (λ d e. d c.if-next-ne-NONE.false)))
 
-pub child-by-spec : {M : Type 1} → statement M
-child-by-spec = tie.close (tie.spec seek-requires letter-requires returns returns_2 returns-3)
+pub child_by_spec : {M : Type 1} → statement M
+child_by_spec = tie.close (tie.spec seek-place-requires letter-requires returns-then-letter-a returns-else-letter-a returns-else-next-ne-NONE)

@@ -8,65 +8,61 @@ use Rattle.tree.proofs.Walk.{Seeking, state_row, seeking_row, seek_on, seek_here
 use Rattle.tree.proofs.children.seek.Statement.{statement}
 use Rattle.tree.proofs.children.seek.Tie as tie
 
-abbrev invariant_loop : tie.invariant_loop
-invariant_loop table p a before₀ next₀ before next = (X S : Words) → AtState X S table p → Seeking S (word S p) a before next
+abbrev invariant-loop-next : tie.invariant-loop-next
+invariant-loop-next table p a before₀ next₀ before next = (X S : Words) → AtState X S table p → Seeking S (word S p) a before next
 
-abbrev decreases_loop : tie.decreases_loop
-decreases_loop table p a before₀ next₀ before next = left table next
+abbrev decreases-loop-next : tie.decreases-loop-next
+decreases-loop-next table p a before₀ next₀ before next = left table next
 
-first-child-requires : tie.Need-first-child-requires invariant_loop decreases_loop
-first-child-requires c κs = let at = c.before.requires.0.2 in state_row at.tree at.inside
+first_child-next-requires : tie.Need-first_child-next-requires invariant-loop-next decreases-loop-next
+first_child-next-requires c κs = let at = c.requires.0.2 in state_row at.tree at.inside
 
-loop_holds : tie.Need-loop-init invariant_loop decreases_loop
-loop_holds c X S at = record {
+loop-next-init : tie.Need-loop-next-init invariant-loop-next decreases-loop-next
+loop-next-init c X S at = record {
   from = 0;
   holder = own;
   low = omega arith;
-  next_is = c.first-child.ensures.is ∙ at.tree.children _ at.inside;
+  next_is = c.first_child-next.ensures.is ∙ at.tree.children _ at.inside;
 }
 
-letter-requires : tie.Need-letter-requires invariant_loop decreases_loop
+letter-requires : tie.Need-letter-requires invariant-loop-next decreases-loop-next
 letter-requires c κs =
-    let at = c.before.before.before.before.requires.0.2 in
-    state_row at.tree (seeking_row at.tree (c.before.loop.invariant _ _ at) c.loop-test.true).inside
+    let at = c.requires.0.2 in
+    state_row at.tree (seeking_row at.tree (c.loop-next.invariant _ _ at) c.loop-next-test.true).inside
 
-returns : tie.Need-returns invariant_loop decreases_loop
-returns c X S at =
-    let turn = c.before.before in
-    seek_here at.tree (turn.before.loop.invariant X S at) turn.loop-test.true (omega (arith, c.before.letter.ensures.is, c.if1.true))
+returns-then-a-letter : tie.Need-returns-then-a-letter invariant-loop-next decreases-loop-next
+returns-then-a-letter c X S at =
+    seek_here at.tree (c.loop-next.invariant X S at) c.loop-next-test.true (omega (arith, c.letter.ensures.is, c.if-a-letter.true))
 
-next-sibling-requires : tie.Need-next-sibling-requires invariant_loop decreases_loop
-next-sibling-requires c κs =
-    let turn = c.before.before in
-    let at = turn.before.before.before.before.requires.0.2 in
-    state_row at.tree (seeking_row at.tree (turn.before.loop.invariant _ _ at) turn.loop-test.true).inside
+next_sibling-next-requires : tie.Need-next_sibling-next-requires invariant-loop-next decreases-loop-next
+next_sibling-next-requires c κs =
+    let at = c.requires.0.2 in
+    state_row at.tree (seeking_row at.tree (c.loop-next.invariant _ _ at) c.loop-next-test.true).inside
 
-loop_less : tie.Need-loop-smaller invariant_loop decreases_loop
-loop_less c =
-    let turn = c.before.before.before in
-    let at = turn.before.before.before.before.requires.0.2 in
-    rw c.next-sibling.ensures.is (left_less at.tree (seeking_row at.tree (turn.before.loop.invariant _ _ at) turn.loop-test.true))
+loop-next-smaller : tie.Need-loop-next-smaller invariant-loop-next decreases-loop-next
+loop-next-smaller c =
+    let at = c.requires.0.2 in
+    rw c.next_sibling-next.ensures.is (left_less at.tree (seeking_row at.tree (c.loop-next.invariant _ _ at) c.loop-next-test.true))
 
-loop_again : tie.Need-loop-preserved invariant_loop decreases_loop
-loop_again c X S at =
-    let turn = c.before.before.before in
-    rw c.next-sibling.ensures.is
-    (seek_on at.tree (turn.before.loop.invariant X S at) turn.loop-test.true (omega (arith, c.before.before.letter.ensures.is, c.before.if1.false)))
+loop-next-preserved : tie.Need-loop-next-preserved invariant-loop-next decreases-loop-next
+loop-next-preserved c X S at =
+    rw c.next_sibling-next.ensures.is
+    (seek_on at.tree (c.loop-next.invariant X S at) c.loop-next-test.true (omega (arith, c.letter.ensures.is, c.if-a-letter.false)))
 
-returns_2 : tie.Need-returns-2 invariant_loop decreases_loop
-returns_2 c X S at = seek_end at.tree (c.before.loop.invariant X S at) c.loop-test.false
+returns : tie.Need-returns invariant-loop-next decreases-loop-next
+returns c X S at = seek_end at.tree (c.loop-next.invariant X S at) c.loop-next-test.false
 
-pub seek-spec : {M : Type 1} → statement M
-seek-spec =
+pub seek_spec : {M : Type 1} → statement M
+seek_spec =
     tie.close
     (tie.spec
-    invariant_loop
-    decreases_loop
-    first-child-requires
-    loop_holds
+    invariant-loop-next
+    decreases-loop-next
+    first_child-next-requires
+    loop-next-init
     letter-requires
-    returns
-    next-sibling-requires
-    loop_less
-    loop_again
-    returns_2)
+    returns-then-a-letter
+    next_sibling-next-requires
+    loop-next-smaller
+    loop-next-preserved
+    returns)

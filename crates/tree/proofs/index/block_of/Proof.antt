@@ -6,61 +6,59 @@ use Rattle.tree.proofs.Indexing.{based_root, based_deep, based_walk, based_row}
 use Rattle.tree.proofs.index.block_of.Statement.{statement}
 use Rattle.tree.proofs.index.block_of.Tie as tie
 
-returns : tie.Need-returns
-returns c X S β = based_root β c.if1.true
+returns-then-v-eq0 : tie.Need-returns-then-v-eq0
+returns-then-v-eq0 c X S β = based_root β c.if-v-eq0.true
 
 depth-requires : tie.Need-depth-requires
 depth-requires c κs = search rules
 
-returns_2 : tie.Need-returns-2
-returns_2 c X S β = based_deep β c.before.before.if1.false c.before.depth.ensures.is c.if2.true
+returns-then-depth-ne1 : tie.Need-returns-then-depth-ne1
+returns-then-depth-ne1 c X S β = based_deep β c.if-v-eq0.false c.depth.ensures.is c.if-depth-ne1.true
 
-letter-requires : tie.Need-letter-requires
-letter-requires c κs = search rules
+letter-x-requires : tie.Need-letter-x-requires
+letter-x-requires c κs = search rules
 
-add_wide : tie.Need-overflow-add-wide
-add_wide c = search rules
+overflow_add-row : tie.Need-overflow_add-row
+overflow_add-row c = search rules
 
-mul_wide : tie.Need-overflow-mul-wide
-mul_wide c = search rules
+offset_bounds-index-row : tie.Need-offset_bounds-index-row
+offset_bounds-index-row c = search rules
 
-element-copy-out-wide : tie.Need-element-copy-out-wide
-element-copy-out-wide c = search rules
+bounds-index-row : tie.Need-bounds-index-row
+bounds-index-row c = search rules
 
 wide-requires : tie.Need-wide-requires
 wide-requires c κs = search rules
 
-returns-3 : tie.Need-returns-3
-returns-3 c X S β =
-    let at-letter = c.before.before.before in
-    based_walk β at-letter.letter.ensures.is at-letter.before.before.depth.ensures.is at-letter.before.if2.false refl
-    c.before.wide.ensures.0 c.if3.true
+returns-then-wide-x : tie.Need-returns-then-wide-x
+returns-then-wide-x c X S β =
+    based_walk β c.letter-x.ensures.is c.depth.ensures.is c.if-depth-ne1.false refl
+    c.wide.ensures.0 c.if-wide-x.true
 
-add-result : tie.Need-overflow-add-result
-add-result c = search rules
+overflow_add-result : tie.Need-overflow_add-result
+overflow_add-result c = search rules
 
-mul-result : tie.Need-overflow-mul-result
-mul-result c = search rules
+overflow_mul-result : tie.Need-overflow_mul-result
+overflow_mul-result c = search rules
 
-returns-4 : tie.Need-returns-4
-returns-4 c X S β =
-    let at-letter = c.before.before.before in
-    based_row β at-letter.letter.ensures.is at-letter.before.before.depth.ensures.is at-letter.before.if2.false refl
-    c.before.wide.ensures.0 c.if3.false (omega arith)
+returns : tie.Need-returns
+returns c X S β =
+    based_row β c.letter-x.ensures.is c.depth.ensures.is c.if-depth-ne1.false refl
+    c.wide.ensures.0 c.if-wide-x.false (omega arith)
 
-pub block-of-spec : {M : Type 1} → statement M
-block-of-spec =
+pub block_of_spec : {M : Type 1} → statement M
+block_of_spec =
     tie.close
     (tie.spec
-    returns
+    returns-then-v-eq0
     depth-requires
-    returns_2
-    letter-requires
-    add_wide
-    mul_wide
-    element-copy-out-wide
+    returns-then-depth-ne1
+    letter-x-requires
+    overflow_add-row
+    offset_bounds-index-row
+    bounds-index-row
     wide-requires
-    returns-3
-    add-result
-    mul-result
-    returns-4)
+    returns-then-wide-x
+    overflow_add-result
+    overflow_mul-result
+    returns)

@@ -12,69 +12,62 @@ use Rattle.tree.proofs.Indexing.{root_state, Rowing, rowing, row_child, one_lett
 use Rattle.tree.proofs.index.child_index.Statement.{statement}
 use Rattle.tree.proofs.index.child_index.Tie as tie
 
-abbrev invariant_loop : tie.invariant_loop
-invariant_loop table index₀ c₀ index c = (X S : Words) → Tree X S table → Rowing S index c
+abbrev invariant-loop-c : tie.invariant-loop-c
+invariant-loop-c table index₀ c₀ index c = (X S : Words) → Tree X S table → Rowing S index c
 
-abbrev decreases_loop : tie.decreases_loop
-decreases_loop table index₀ c₀ index c = left table c
+abbrev decreases-loop-c : tie.decreases-loop-c
+decreases-loop-c table index₀ c₀ index c = left table c
 
-abbrev entry : tie.In-loop invariant_loop decreases_loop → tie.Start invariant_loop decreases_loop
-entry c = c.before.before.before.before.before.before
-
-note-children-requires : tie.Need-note-children-requires invariant_loop decreases_loop
-note-children-requires c κs =
-    let (X, S, τ) = c.before.before.requires in
+note_children-requires : tie.Need-note_children-requires invariant-loop-c decreases-loop-c
+note_children-requires c κs =
+    let (X, S, τ) = c.requires in
     ((X, S, root_state τ), (omega arith, λ a l. get_or-replicate index_length (0 + a) absent 0 (omega arith)))
 
-first-child-requires : tie.Need-first-child-requires invariant_loop decreases_loop
-first-child-requires c κs = let τ = c.before.before.before.requires.2 in state_row τ (root_inside τ.states)
+first_child-c-requires : tie.Need-first_child-c-requires invariant-loop-c decreases-loop-c
+first_child-c-requires c κs = let τ = c.requires.2 in state_row τ (root_inside τ.states)
 
-loop_holds : tie.Need-loop-init invariant_loop decreases_loop
-loop_holds c X S τ = rowing τ (c.before.note-children.ensures X S (root_state τ)) c.first-child.ensures.is
+loop-c-init : tie.Need-loop-c-init invariant-loop-c decreases-loop-c
+loop-c-init c X S τ = rowing τ (c.note_children.ensures X S (root_state τ)) c.first_child-c.ensures.is
 
-letter-requires : tie.Need-letter-requires invariant_loop decreases_loop
-letter-requires c κs = let τ = (entry c).requires.2 in state_row τ (row_child τ (c.before.loop.invariant _ _ τ) c.loop-test.true).inside
+letter-x-requires : tie.Need-letter-x-requires invariant-loop-c decreases-loop-c
+letter-x-requires c κs = let τ = c.requires.2 in state_row τ (row_child τ (c.loop-c.invariant _ _ τ) c.loop-c-test.true).inside
 
-take-row-requires : tie.Need-take-row-requires invariant_loop decreases_loop
-take-row-requires c κs =
-    let turn = c.before.before in
-    let (X, S, τ) = (entry turn).requires in
-    (X, S, one_letter τ (turn.before.loop.invariant X S τ) turn.loop-test.true c.before.letter.ensures.is)
+take_row-requires : tie.Need-take_row-requires invariant-loop-c decreases-loop-c
+take_row-requires c κs =
+    let (X, S, τ) = c.requires in
+    (X, S, one_letter τ (c.loop-c.invariant X S τ) c.loop-c-test.true c.letter-x.ensures.is)
 
-next-sibling-requires : tie.Need-next-sibling-requires invariant_loop decreases_loop
-next-sibling-requires c κs =
-    let turn = c.before.before.before in
-    let τ = (entry turn).requires.2 in
-    state_row τ (row_child τ (turn.before.loop.invariant _ _ τ) turn.loop-test.true).inside
+next_sibling-c-requires : tie.Need-next_sibling-c-requires invariant-loop-c decreases-loop-c
+next_sibling-c-requires c κs =
+    let τ = c.requires.2 in
+    state_row τ (row_child τ (c.loop-c.invariant _ _ τ) c.loop-c-test.true).inside
 
-loop_less : tie.Need-loop-smaller invariant_loop decreases_loop
-loop_less c =
-    let turn = c.before.before.before.before in
-    let τ = (entry turn).requires.2 in
-    rw c.next-sibling.ensures.is (left_less τ (row_child τ (turn.before.loop.invariant _ _ τ) turn.loop-test.true))
+loop-c-smaller : tie.Need-loop-c-smaller invariant-loop-c decreases-loop-c
+loop-c-smaller c =
+    let τ = c.requires.2 in
+    rw c.next_sibling-c.ensures.is (left_less τ (row_child τ (c.loop-c.invariant _ _ τ) c.loop-c-test.true))
 
-loop_again : tie.Need-loop-preserved invariant_loop decreases_loop
-loop_again c X S τ =
-    let turn = c.before.before.before.before in
-    let φ = turn.before.loop.invariant X S τ in
-    let f = turn.loop-test.true in
-    row_on τ φ f (c.before.take_row.ensures X S (one_letter τ φ f c.before.before.before.letter.ensures.is)) c.next-sibling.ensures.is
+loop-c-preserved : tie.Need-loop-c-preserved invariant-loop-c decreases-loop-c
+loop-c-preserved c X S τ =
+    let φ = c.loop-c.invariant X S τ in
+    let f = c.loop-c-test.true in
+    row_on τ φ f (c.take_row.ensures X S (one_letter τ φ f c.letter-x.ensures.is)) c.next_sibling-c.ensures.is
 
-returns : tie.Need-returns invariant_loop decreases_loop
-returns c X S τ = (c.before.loop.invariant X S τ).indexed
+returns : tie.Need-returns invariant-loop-c decreases-loop-c
+returns c X S τ = (c.loop-c.invariant X S τ).indexed
 
-pub child-index-spec : {M : Type 1} → statement M
-child-index-spec =
+pub child_index_spec : {M : Type 1} → statement M
+child_index_spec =
     tie.close
     (tie.spec
-    invariant_loop
-    decreases_loop
-    note-children-requires
-    first-child-requires
-    loop_holds
-    letter-requires
-    take-row-requires
-    next-sibling-requires
-    loop_less
-    loop_again
+    invariant-loop-c
+    decreases-loop-c
+    note_children-requires
+    first_child-c-requires
+    loop-c-init
+    letter-x-requires
+    take_row-requires
+    next_sibling-c-requires
+    loop-c-smaller
+    loop-c-preserved
     returns)

@@ -8,46 +8,45 @@ use Rattle.tree.proofs.Blocks.{cell, block_low}
 use Rattle.tree.proofs.index.child_of.Statement.{statement}
 use Rattle.tree.proofs.index.child_of.Tie as tie
 
-inside : (c : tie.Else1) → c.before.Block-of.result + c.before.before.before.args.a < index_length
+inside : (c : tie.Else-base-eq-NONE) → c.block_of-base.result + c.args.a < index_length
 inside c =
-    let pre = c.before.before.before.requires in
-    omega (arith, block_low (c.before.Block-of.ensures _ _ pre.0.2) c.if1.false, pre.1)
+    let pre = c.requires in
+    omega (arith, block_low (c.block_of-base.ensures _ _ pre.0.2) c.if-base-eq-NONE.false, pre.1)
 
-block-of-requires : tie.Need-block-of-requires
-block-of-requires c κs = search rules
+block_of-base-requires : tie.Need-block_of-base-requires
+block_of-base-requires c κs = search rules
 
-child-by-requires : tie.Need-child-by-requires
-child-by-requires c κs = search rules
+child_by-requires : tie.Need-child_by-requires
+child_by-requires c κs = search rules
 
-returns : tie.Need-returns
-returns c X S β = c.child-by.ensures X S β.at
+returns-then-base-eq-NONE : tie.Need-returns-then-base-eq-NONE
+returns-then-base-eq-NONE c X S β = c.child_by.ensures X S β.at
 
-add_wide : tie.Need-overflow-add-wide
-add_wide c = omega (arith, inside c)
+overflow_add-base : tie.Need-overflow_add-base
+overflow_add-base c = omega (arith, inside c)
 
-mul_wide : tie.Need-overflow-mul-wide
-mul_wide c = omega (arith, inside c)
+offset_bounds-index-base : tie.Need-offset_bounds-index-base
+offset_bounds-index-base c = omega (arith, inside c)
 
-element-copy-out-wide : tie.Need-element-copy-out-wide
-element-copy-out-wide c = inside c
+bounds-index-base : tie.Need-bounds-index-base
+bounds-index-base c = inside c.before
 
 wide-requires : tie.Need-wide-requires
 wide-requires c κs = search rules
 
-returns_2 : tie.Need-returns-2
-returns_2 c X S β =
-    let walk = c.before.before in
-    c.wide.ensures.0 ∙ cell β.indexed (walk.before.Block-of.ensures X S β) walk.if1.false walk.before.before.before.requires.1
+returns : tie.Need-returns
+returns c X S β =
+    c.wide.ensures.0 ∙ cell β.indexed (c.block_of-base.ensures X S β) c.if-base-eq-NONE.false c.requires.1
 
-pub child-of-spec : {M : Type 1} → statement M
-child-of-spec =
+pub child_of_spec : {M : Type 1} → statement M
+child_of_spec =
     tie.close
     (tie.spec
-    block-of-requires
-    child-by-requires
-    returns
-    add_wide
-    mul_wide
-    element-copy-out-wide
+    block_of-base-requires
+    child_by-requires
+    returns-then-base-eq-NONE
+    overflow_add-base
+    offset_bounds-index-base
+    bounds-index-base
     wide-requires
-    returns_2)
+    returns)

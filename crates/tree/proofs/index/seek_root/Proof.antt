@@ -12,86 +12,80 @@ use Rattle.tree.proofs.Indexing.{last_child, last_row, gap_on}
 use Rattle.tree.proofs.index.seek_root.Statement.{statement}
 use Rattle.tree.proofs.index.seek_root.Tie as tie
 
-abbrev invariant_loop : tie.invariant_loop
-invariant_loop table index a above₀ above =
+abbrev invariant-loop-above : tie.invariant-loop-above
+invariant-loop-above table index a above₀ above =
     (above ≤ a) × ((X S : Words) → IndexedAt X S table index 0 → NoChild S (word S 0) above a)
 
-abbrev decreases_loop : tie.decreases_loop
-decreases_loop table index a above₀ above = above
+abbrev decreases-loop-above : tie.decreases-loop-above
+decreases-loop-above table index a above₀ above = above
 
-abbrev entry : tie.In-loop invariant_loop decreases_loop → tie.Start invariant_loop decreases_loop
-entry c = c.before.before.before.before
+inside : (c : tie.In-loop-above invariant-loop-above decreases-loop-above) → c.loop-above.above - 1 < letter_values
+inside c = omega (arith, c.loop-above.invariant.0, c.requires.1)
 
-inside : (c : tie.In-loop invariant_loop decreases_loop) → c.before.loop.above - 1 < letter_values
-inside c = omega (arith, c.before.loop.invariant.0, (entry c).requires.1)
+search_start-above-requires : tie.Need-search_start-above-requires invariant-loop-above decreases-loop-above
+search_start-above-requires c κs = let (X, S, β) = c.requires.0 in (X, S, β.at.tree)
 
-search-start-requires : tie.Need-search-start-requires invariant_loop decreases_loop
-search-start-requires c κs = let (X, S, β) = c.before.requires.0 in (X, S, β.at.tree)
+loop-above-init : tie.Need-loop-above-init invariant-loop-above decreases-loop-above
+loop-above-init c = (c.search_start-above.ensures.0, λ X S β. c.search_start-above.ensures.1 X S β.at.tree)
 
-loop_holds : tie.Need-loop-init invariant_loop decreases_loop
-loop_holds c = (c.search-start.ensures.0, λ X S β. c.search-start.ensures.1 X S β.at.tree)
+overflow_sub-above : tie.Need-overflow_sub-above invariant-loop-above decreases-loop-above
+overflow_sub-above c = search rules
 
-sub-above : tie.Need-overflow-sub-above invariant_loop decreases_loop
-sub-above c = search rules
+offset_bounds-index-above : tie.Need-offset_bounds-index-above invariant-loop-above decreases-loop-above
+offset_bounds-index-above c = omega (arith, inside c)
 
-mul_wide : tie.Need-overflow-mul-wide invariant_loop decreases_loop
-mul_wide c = omega (arith, inside c)
+bounds-index-above : tie.Need-bounds-index-above invariant-loop-above decreases-loop-above
+bounds-index-above c = omega (arith, inside c.before)
 
-element-copy-out-wide : tie.Need-element-copy-out-wide invariant_loop decreases_loop
-element-copy-out-wide c = omega (arith, inside c)
+wide-before-requires : tie.Need-wide-before-requires invariant-loop-above decreases-loop-above
+wide-before-requires c κs = tt
 
-wide-requires : tie.Need-wide-requires invariant_loop decreases_loop
-wide-requires c κs = tt
+next_sibling-next-requires : tie.Need-next_sibling-next-requires invariant-loop-above decreases-loop-above
+next_sibling-next-requires c κs =
+    last_row c.requires.0.2 (inside c.before.before.before.before) c.wide-before.ensures.0 c.if-before-ne-NONE.true
 
-next-sibling-requires : tie.Need-next-sibling-requires invariant_loop decreases_loop
-next-sibling-requires c κs =
-    let turn = c.before.before.before in
-    last_row (entry turn).requires.0.2 (inside turn) c.before.wide.ensures.0 c.if1.true
+returns-then-before-ne-NONE : tie.Need-returns-then-before-ne-NONE invariant-loop-above decreases-loop-above
+returns-then-before-ne-NONE c X S β =
+    place_after β.at.tree (last_child β (inside c.before.before.before.before.before) c.wide-before.ensures.0 c.if-before-ne-NONE.true)
+    (omega (arith, c.loop-above.invariant.0, c.loop-above-test.true))
+    (λ d l m. c.loop-above.invariant.1 X S β d (omega arith) m)
+    c.next_sibling-next.ensures.is
 
-returns : tie.Need-returns invariant_loop decreases_loop
+loop-above-smaller : tie.Need-loop-above-smaller invariant-loop-above decreases-loop-above
+loop-above-smaller c = search rules
+
+loop-above-preserved : tie.Need-loop-above-preserved invariant-loop-above decreases-loop-above
+loop-above-preserved c = (
+  omega arith,
+  λ X S β.
+      gap_on β (inside c.before.before.before.before) c.wide-before.ensures.0 c.if-before-ne-NONE.false
+      (λ d l m. c.loop-above.invariant.1 X S β d (omega arith) m),
+)
+
+first_child-next-requires : tie.Need-first_child-next-requires invariant-loop-above decreases-loop-above
+first_child-next-requires c κs = let β = c.requires.0.2 in state_row β.at.tree β.at.inside
+
+returns : tie.Need-returns invariant-loop-above decreases-loop-above
 returns c X S β =
-    let turn = c.before.before.before.before in
-    place_after β.at.tree (last_child β (inside turn) c.before.before.wide.ensures.0 c.before.if1.true)
-    (omega (arith, turn.before.loop.invariant.0, turn.loop-test.true))
-    (λ d l m. turn.before.loop.invariant.1 X S β d (omega arith) m)
-    c.next-sibling.ensures.is
-
-loop_less : tie.Need-loop-smaller invariant_loop decreases_loop
-loop_less c = search rules
-
-loop_again : tie.Need-loop-preserved invariant_loop decreases_loop
-loop_again c =
-    let turn = c.before.before.before in (
-      omega arith,
-      λ X S β.
-          gap_on β (inside turn) c.before.wide.ensures.0 c.if1.false
-          (λ d l m. turn.before.loop.invariant.1 X S β d (omega arith) m),
-    )
-
-first-child-requires : tie.Need-first-child-requires invariant_loop decreases_loop
-first-child-requires c κs = let β = c.before.before.before.before.requires.0.2 in state_row β.at.tree β.at.inside
-
-returns_2 : tie.Need-returns-2 invariant_loop decreases_loop
-returns_2 c X S β =
     place_first β.at.tree β.at.inside refl
-    (λ d l m. c.before.before.loop.invariant.1 X S β d (omega (arith, c.before.loop-test.false)) m)
-    c.first-child.ensures.is
+    (λ d l m. c.loop-above.invariant.1 X S β d (omega (arith, c.loop-above-test.false)) m)
+    c.first_child-next.ensures.is
 
-pub seek-root-spec : {M : Type 1} → statement M
-seek-root-spec =
+pub seek_root_spec : {M : Type 1} → statement M
+seek_root_spec =
     tie.close
     (tie.spec
-    invariant_loop
-    decreases_loop
-    search-start-requires
-    loop_holds
-    sub-above
-    mul_wide
-    element-copy-out-wide
-    wide-requires
-    next-sibling-requires
-    returns
-    loop_less
-    loop_again
-    first-child-requires
-    returns_2)
+    invariant-loop-above
+    decreases-loop-above
+    search_start-above-requires
+    loop-above-init
+    overflow_sub-above
+    offset_bounds-index-above
+    bounds-index-above
+    wide-before-requires
+    next_sibling-next-requires
+    returns-then-before-ne-NONE
+    loop-above-smaller
+    loop-above-preserved
+    first_child-next-requires
+    returns)

@@ -9,69 +9,65 @@ use Rattle.tree.proofs.Indexing.{row_empty, row_filled}
 use Rattle.tree.proofs.index.take_row.Statement.{statement}
 use Rattle.tree.proofs.index.take_row.Tie as tie
 
--- the row has no owner
-abbrev entry : tie.Then1 → tie.Start
-entry c = c.before.before.before.before
+free : (c : tie.Then-wide-eq-NONE) → owner c.args.index.now (c.args.x % rows) ≡ absent
+free c = sym c.wide.ensures.0 ∙ c.if-wide-eq-NONE.true
 
-free : (c : tie.Then1) → owner (entry c).args.index.now ((entry c).args.x % rows) ≡ absent
-free c = sym c.before.wide.ensures.0 ∙ c.if1.true
+overflow_add-row : tie.Need-overflow_add-row
+overflow_add-row c = search rules
 
-add_wide : tie.Need-overflow-add-wide
-add_wide c = search rules
+offset_bounds-index-row : tie.Need-offset_bounds-index-row
+offset_bounds-index-row c = search rules
 
-mul_wide : tie.Need-overflow-mul-wide
-mul_wide c = search rules
-
-element-copy-out-wide : tie.Need-element-copy-out-wide
-element-copy-out-wide c = search rules
+bounds-index-row : tie.Need-bounds-index-row
+bounds-index-row c = search rules
 
 wide-requires : tie.Need-wide-requires
 wide-requires c κs = search rules
 
-cast-index : tie.Need-overflow-cast-index
-cast-index c = search rules
+overflow_cast-index : tie.Need-overflow_cast-index
+overflow_cast-index c = search rules
 
-add-index : tie.Need-overflow-add-index
-add-index c = search rules
+overflow_add-index : tie.Need-overflow_add-index
+overflow_add-index c = search rules
 
-mul-index : tie.Need-overflow-mul-index
-mul-index c = search rules
+offset_bounds-index-row-then-wide-eq-NONE : tie.Need-offset_bounds-index-row-then-wide-eq-NONE
+offset_bounds-index-row-then-wide-eq-NONE c = search rules
 
-element-write-index : tie.Need-element-write-index
-element-write-index c = search rules
+bounds-index-row-then-wide-eq-NONE : tie.Need-bounds-index-row-then-wide-eq-NONE
+bounds-index-row-then-wide-eq-NONE c = search rules
 
-add-note-children : tie.Need-overflow-add-note-children
-add-note-children c = search rules
+overflow_add-row-then-wide-eq-NONE : tie.Need-overflow_add-row-then-wide-eq-NONE
+overflow_add-row-then-wide-eq-NONE c = search rules
 
-mul-note-children : tie.Need-overflow-mul-note-children
-mul-note-children c = search rules
+overflow_mul-row : tie.Need-overflow_mul-row
+overflow_mul-row c = search rules
 
-note-children-requires : tie.Need-note-children-requires
-note-children-requires c κs =
-    let (X, S, ω) = (entry c.before).requires in
+note_children-requires : tie.Need-note_children-requires
+note_children-requires c κs =
+    let (X, S, ω) = c.requires in
     ((X, S, ω.here.at), (omega arith, row_empty ω refl (omega arith) (free c.before)))
 
-returns : tie.Need-returns
-returns c X S ω =
-    row_filled ω refl (omega arith) (free c.before.before) (c.note-children.ensures X S ω.here.at)
+returns-then-wide-eq-NONE : tie.Need-returns-then-wide-eq-NONE
+returns-then-wide-eq-NONE c X S ω =
+    row_filled ω refl (omega arith) (free c.before.before) (c.note_children.ensures X S ω.here.at)
 
-returns_2 : tie.Need-returns-2
-returns_2 c X S ω = ω.here.indexed
+returns-else-wide-eq-NONE : tie.Need-returns-else-wide-eq-NONE
+returns-else-wide-eq-NONE c X S ω = ω.here.indexed
 
-pub take-row-spec : {M : Type 1} → statement M
-take-row-spec =
+pub take_row_spec : {M : Type 1} → statement M
+take_row_spec =
     tie.close
     (tie.spec
-    add_wide
-    mul_wide
-    element-copy-out-wide
+    overflow_add-row
+    offset_bounds-index-row
+    bounds-index-row
     wide-requires
-    cast-index
-    add-index
-    mul-index
-    element-write-index
-    add-note-children
-    mul-note-children
-    note-children-requires
-    returns
-    returns_2)
+    overflow_cast-index
+    overflow_add-index
+    offset_bounds-index-row-then-wide-eq-NONE
+    bounds-index-row-then-wide-eq-NONE
+    overflow_add-row-then-wide-eq-NONE
+    overflow_mul-row
+    note_children-requires
+    returns-then-wide-eq-NONE
+    returns-else-wide-eq-NONE)

@@ -6,47 +6,47 @@ use Rattle.meaning.specs.Numbers.{absent}
 use Rattle.tree.proofs.insertion.claim_row.Statement.{statement}
 use Rattle.tree.proofs.insertion.claim_row.Tie as tie
 
-add_wide : tie.Need-overflow-add-wide
-add_wide c = search rules
+overflow_add-row : tie.Need-overflow_add-row
+overflow_add-row c = search rules
 
-mul_wide : tie.Need-overflow-mul-wide
-mul_wide c = search rules
+offset_bounds-index-row : tie.Need-offset_bounds-index-row
+offset_bounds-index-row c = search rules
 
-element-copy-out-wide : tie.Need-element-copy-out-wide
-element-copy-out-wide c = search rules
+bounds-index-row : tie.Need-bounds-index-row
+bounds-index-row c = search rules
 
 wide-requires : tie.Need-wide-requires
 wide-requires c κs = search rules
 
-cast-index : tie.Need-overflow-cast-index
-cast-index c = search rules
+overflow_cast-index : tie.Need-overflow_cast-index
+overflow_cast-index c = search rules
 
-add-index : tie.Need-overflow-add-index
-add-index c = search rules
+overflow_add-index : tie.Need-overflow_add-index
+overflow_add-index c = search rules
 
-mul-index : tie.Need-overflow-mul-index
-mul-index c = search rules
+offset_bounds-index-row-then-wide-eq-NONE : tie.Need-offset_bounds-index-row-then-wide-eq-NONE
+offset_bounds-index-row-then-wide-eq-NONE c = search rules
 
-element-write-index : tie.Need-element-write-index
-element-write-index c = search rules
+bounds-index-row-then-wide-eq-NONE : tie.Need-bounds-index-row-then-wide-eq-NONE
+bounds-index-row-then-wide-eq-NONE c = search rules
 
-returns : tie.Need-returns
-returns c = rw (eq-eqb _ absent (sym c.before.wide.ensures.0 ∙ c.if1.true))
+returns-then-wide-eq-NONE : tie.Need-returns-then-wide-eq-NONE
+returns-then-wide-eq-NONE c = rw (eq-eqb _ absent (sym c.wide.ensures.0 ∙ c.if-wide-eq-NONE.true))
 
-returns_2 : tie.Need-returns-2
-returns_2 c = rw (ne_eqb _ absent (λ e. c.if1.false (c.before.wide.ensures.0 ∙ e)))
+returns-else-wide-eq-NONE : tie.Need-returns-else-wide-eq-NONE
+returns-else-wide-eq-NONE c = rw (ne_eqb _ absent (λ e. c.if-wide-eq-NONE.false (c.wide.ensures.0 ∙ e)))
 
-pub claim-row-spec : {M : Type 1} → statement M
-claim-row-spec =
+pub claim_row_spec : {M : Type 1} → statement M
+claim_row_spec =
     tie.close
     (tie.spec
-    add_wide
-    mul_wide
-    element-copy-out-wide
+    overflow_add-row
+    offset_bounds-index-row
+    bounds-index-row
     wide-requires
-    cast-index
-    add-index
-    mul-index
-    element-write-index
-    returns
-    returns_2)
+    overflow_cast-index
+    overflow_add-index
+    offset_bounds-index-row-then-wide-eq-NONE
+    bounds-index-row-then-wide-eq-NONE
+    returns-then-wide-eq-NONE
+    returns-else-wide-eq-NONE)

@@ -4,14 +4,14 @@ use borrow.Author.Tests.{eq-eqb, ne_eqb}
 use Rattle.tree.proofs.insertion.claim_under.Statement.{statement}
 use Rattle.tree.proofs.insertion.claim_under.Tie as tie
 
-claim-row-requires : tie.Need-claim-row-requires
-claim-row-requires c κs = search rules
+claim_row-requires : tie.Need-claim_row-requires
+claim_row-requires c κs = search rules
 
-returns : tie.Need-returns
-returns c = rw (eq-eqb _ 0 c.before.before.if1.true) c.claim-row.ensures
+returns-then-p-eq0 : tie.Need-returns-then-p-eq0
+returns-then-p-eq0 c = rw (eq-eqb _ 0 c.if-p-eq0.true) c.claim_row.ensures
 
-returns_2 : tie.Need-returns-2
-returns_2 c = rw (ne_eqb _ 0 c.if1.false)
+returns-else-p-eq0 : tie.Need-returns-else-p-eq0
+returns-else-p-eq0 c = rw (ne_eqb _ 0 c.if-p-eq0.false)
 
-pub claim-under-spec : {M : Type 1} → statement M
-claim-under-spec = tie.close (tie.spec claim-row-requires returns returns_2)
+pub claim_under_spec : {M : Type 1} → statement M
+claim_under_spec = tie.close (tie.spec claim_row-requires returns-then-p-eq0 returns-else-p-eq0)

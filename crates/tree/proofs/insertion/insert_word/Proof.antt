@@ -1,4 +1,4 @@
--- `tree::insertion::insert_word`: at the loop's head the first i letters are in the tree.
+-- `tree::insertion::insert_word`: at the loop's the first i letters are in the tree.
 use mathlib.Core.Path.{◌≡◌, refl, sym, ◌∙◌}
 use Prim.Native.Nat.{◌-◌, ◌≤◌, ◌<◌}
 use native.Mathlib.Omega.{arith}
@@ -11,94 +11,84 @@ use Rattle.tree.proofs.Inserting.{Partly, start, opens, reaches, partly_row, ins
 use Rattle.tree.proofs.insertion.insert_word.Statement.{statement}
 use Rattle.tree.proofs.insertion.insert_word.Tie as tie
 
-abbrev invariant_loop : tie.invariant_loop
-invariant_loop map table₀ index₀ n letters k count₀ p₀ i₀ table index count p i =
+abbrev invariant-loop-i : tie.invariant-loop-i
+invariant-loop-i map table₀ index₀ n letters k count₀ p₀ i₀ table index count p i =
     (i ≤ length letters)
     × (length table ≡ length table₀)
     × ((X S : Words) → Insertable X S table₀ index₀ n (mapped map letters) k
     → Partly X S (mapped map letters) i table₀ table index p count)
 
-abbrev decreases_loop : tie.decreases_loop
-decreases_loop map table₀ index₀ n letters k count₀ p₀ i₀ table index count p i = length letters - i
+abbrev decreases-loop-i : tie.decreases-loop-i
+decreases-loop-i map table₀ index₀ n letters k count₀ p₀ i₀ table index count p i = length letters - i
 
-loop_holds : tie.Need-loop-init invariant_loop decreases_loop
-loop_holds c = (omega arith, refl, λ X S γ. start γ)
+loop-i-init : tie.Need-loop-i-init invariant-loop-i decreases-loop-i
+loop-i-init c = (omega arith, refl, λ X S γ. start γ)
 
-shared-slice-read-wide-letter : tie.Need-shared-slice-read-wide-letter invariant_loop decreases_loop
-shared-slice-read-wide-letter c = omega arith
+bounds-letters-i : tie.Need-bounds-letters-i invariant-loop-i decreases-loop-i
+bounds-letters-i c = omega arith
 
-wide-letter-requires : tie.Need-wide-letter-requires invariant_loop decreases_loop
-wide-letter-requires c κs = tt
+wide_letter-a-requires : tie.Need-wide_letter-a-requires invariant-loop-i decreases-loop-i
+wide_letter-a-requires c κs = tt
 
-add-i : tie.Need-overflow-add-i invariant_loop decreases_loop
-add-i c = omega arith
+overflow_add-i : tie.Need-overflow_add-i invariant-loop-i decreases-loop-i
+overflow_add-i c = omega arith
 
--- the places before a letter: the loop's head, and the function's entry
-abbrev head : tie.After-wide-letter invariant_loop decreases_loop → tie.At-loop invariant_loop decreases_loop
-head c = c.before.before.before
+abbrev the_word : tie.At-loop-i invariant-loop-i decreases-loop-i → Word
+the_word c = mapped c.args.map.now c.args.letters.now
 
-abbrev entry : tie.At-loop invariant_loop decreases_loop → tie.Start invariant_loop decreases_loop
-entry c = c.before.before.before.before
-
-abbrev the_word : tie.At-loop invariant_loop decreases_loop → Word
-the_word c = mapped (entry c).args.map.now (entry c).args.letters.now
-
-more : (c : tie.After-wide-letter invariant_loop decreases_loop) → (head c).loop.i < length (the_word (head c))
+more : (c : tie.After-wide_letter-a invariant-loop-i decreases-loop-i) → c.loop-i.i < length (the_word c.before.before.before)
 more c = simp length-map (omega arith)
 
-letter_is : (c : tie.After-wide-letter invariant_loop decreases_loop) → c.wide-letter.result ≡ get_or (the_word (head c)) (head c).loop.i 0
+letter_is : (c : tie.After-wide_letter-a invariant-loop-i decreases-loop-i) → c.wide_letter-a.result ≡ get_or (the_word c.before.before.before) c.loop-i.i 0
 letter_is c =
-    c.wide-letter.ensures.0
-    ∙ sym (mapped_at (entry (head c)).args.map.now (entry (head c)).args.letters.now (head c).loop.i (omega arith))
+    c.wide_letter-a.ensures.0
+    ∙ sym (mapped_at c.args.map.now c.args.letters.now c.loop-i.i (omega arith))
 
-reach-requires : tie.Need-reach-requires invariant_loop decreases_loop
-reach-requires c κs =
-    let d = c.before.before in
-    let (X, S, γ) = (entry (head d)).pre in
-    (X, _, opens γ ((head d).loop.invariant.2 X S γ) (more d) (head d).loop.invariant.1 (letter_is d))
+reach-reached-requires : tie.Need-reach-reached-requires invariant-loop-i decreases-loop-i
+reach-reached-requires c κs =
+    let (X, S, γ) = c.requires in
+    (X, _, opens γ (c.loop-i.invariant.2 X S γ) (more c.before.before) c.loop-i.invariant.1 (letter_is c.before.before))
 
-loop_less : tie.Need-loop-smaller invariant_loop decreases_loop
-loop_less c = omega arith
+loop-i-smaller : tie.Need-loop-i-smaller invariant-loop-i decreases-loop-i
+loop-i-smaller c = omega arith
 
-loop_again : tie.Need-loop-preserved invariant_loop decreases_loop
-loop_again c =
-    let d = c.before.before.before.before.before in (
-      omega arith,
-      c.before.before.reach.auto.0 ∙ (head d).loop.invariant.1,
-      λ X S γ.
-          let φ = (head d).loop.invariant.2 X S γ in
-          reaches γ φ (more d) (head d).loop.invariant.1 (letter_is d)
-          (c.before.before.reach.ensures X _ (opens γ φ (more d) (head d).loop.invariant.1 (letter_is d))),
-    )
+loop-i-preserved : tie.Need-loop-i-preserved invariant-loop-i decreases-loop-i
+loop-i-preserved c = (
+  omega arith,
+  c.reach-reached.auto.table ∙ c.loop-i.invariant.1,
+  λ X S γ.
+      let φ = c.loop-i.invariant.2 X S γ in
+      reaches γ φ (more c.before.before.before.before.before) c.loop-i.invariant.1 (letter_is c.before.before.before.before.before)
+      (c.reach-reached.ensures X _ (opens γ φ (more c.before.before.before.before.before) c.loop-i.invariant.1 (letter_is c.before.before.before.before.before))),
+)
 
-set-word-requires : tie.Need-set-word-requires invariant_loop decreases_loop
-set-word-requires c κs =
-    let d = c.before.before in
-    let (X, S, γ) = (entry d).requires in
-    (partly_row γ (d.loop.invariant.2 X S γ), omega (arith, γ.words))
+set_word-requires : tie.Need-set_word-requires invariant-loop-i decreases-loop-i
+set_word-requires c κs =
+    let (X, S, γ) = c.requires in
+    (partly_row γ (c.loop-i.invariant.2 X S γ), omega (arith, γ.words))
 
-same_length : tie.Need-same-length invariant_loop decreases_loop
-same_length c = c.before.before.set_word.auto.0 ∙ c.before.before.before.before.before.loop.invariant.1
+shape_of-table : tie.Need-shape_of-table invariant-loop-i decreases-loop-i
+shape_of-table c = c.set_word.auto.table ∙ c.loop-i.invariant.1
 
-returns : tie.Need-returns invariant_loop decreases_loop
+returns : tie.Need-returns invariant-loop-i decreases-loop-i
 returns c X S γ =
-    inserted γ (c.before.before.before.before.before.loop.invariant.2 X S γ)
+    inserted γ (c.loop-i.invariant.2 X S γ)
     (simp length-map (omega arith))
-    c.before.before.set_word.ensures
+    c.set_word.ensures
 
-pub insert-word-spec : {M : Type 1} → statement M
-insert-word-spec =
+pub insert_word_spec : {M : Type 1} → statement M
+insert_word_spec =
     tie.close
     (tie.spec
-    invariant_loop
-    decreases_loop
-    loop_holds
-    shared-slice-read-wide-letter
-    wide-letter-requires
-    add-i
-    reach-requires
-    loop_less
-    loop_again
-    set-word-requires
-    same_length
+    invariant-loop-i
+    decreases-loop-i
+    loop-i-init
+    bounds-letters-i
+    wide_letter-a-requires
+    overflow_add-i
+    reach-reached-requires
+    loop-i-smaller
+    loop-i-preserved
+    set_word-requires
+    shape_of-table
     returns)

@@ -6,24 +6,24 @@ use Rattle.meaning.specs.Numbers.{absent}
 use Rattle.tree.proofs.insertion.known_child.Statement.{statement}
 use Rattle.tree.proofs.insertion.known_child.Tie as tie
 
-returns : tie.Need-returns
-returns c = rw (eq-eqb _ absent c.if1.true)
+returns-then-base-eq-NONE : tie.Need-returns-then-base-eq-NONE
+returns-then-base-eq-NONE c = rw (eq-eqb _ absent c.if-base-eq-NONE.true)
 
-add_wide : tie.Need-overflow-add-wide
-add_wide c = omega (arith, c.before.requires.1 c.if1.false)
+overflow_add-base : tie.Need-overflow_add-base
+overflow_add-base c = omega (arith, c.requires.1 c.if-base-eq-NONE.false)
 
-mul_wide : tie.Need-overflow-mul-wide
-mul_wide c = omega (arith, c.before.requires.1 c.if1.false)
+offset_bounds-index-base : tie.Need-offset_bounds-index-base
+offset_bounds-index-base c = omega (arith, c.requires.1 c.if-base-eq-NONE.false)
 
-element-copy-out-wide : tie.Need-element-copy-out-wide
-element-copy-out-wide c = omega (arith, c.before.requires.1 c.if1.false)
+bounds-index-base : tie.Need-bounds-index-base
+bounds-index-base c = omega (arith, c.requires.1 c.if-base-eq-NONE.false)
 
 wide-requires : tie.Need-wide-requires
 wide-requires c κs = search rules
 
-returns_2 : tie.Need-returns-2
-returns_2 c = rw (ne_eqb _ absent c.before.before.if1.false) c.wide.ensures.0
+returns : tie.Need-returns
+returns c = rw (ne_eqb _ absent c.if-base-eq-NONE.false) c.wide.ensures.0
 
-pub known-child-spec : {M : Type 1} → statement M
-known-child-spec =
-    tie.close (tie.spec returns add_wide mul_wide element-copy-out-wide wide-requires returns_2)
+pub known_child_spec : {M : Type 1} → statement M
+known_child_spec =
+    tie.close (tie.spec returns-then-base-eq-NONE overflow_add-base offset_bounds-index-base bounds-index-base wide-requires returns)

@@ -6,24 +6,24 @@ use Rattle.meaning.specs.Numbers.{absent}
 use Rattle.tree.proofs.insertion.note.Statement.{statement}
 use Rattle.tree.proofs.insertion.note.Tie as tie
 
-cast-index : tie.Need-overflow-cast-index
-cast-index c = search rules
+overflow_cast-index : tie.Need-overflow_cast-index
+overflow_cast-index c = search rules
 
-add-index : tie.Need-overflow-add-index
-add-index c = omega (arith, c.before.requires.2 c.if1.true)
+overflow_add-index : tie.Need-overflow_add-index
+overflow_add-index c = omega (arith, c.requires.2 c.if-base-ne-NONE.true)
 
-mul-index : tie.Need-overflow-mul-index
-mul-index c = omega (arith, c.before.requires.2 c.if1.true)
+offset_bounds-index-base : tie.Need-offset_bounds-index-base
+offset_bounds-index-base c = omega (arith, c.requires.2 c.if-base-ne-NONE.true)
 
-element-write-index : tie.Need-element-write-index
-element-write-index c = omega (arith, c.before.requires.2 c.if1.true)
+bounds-index-base : tie.Need-bounds-index-base
+bounds-index-base c = omega (arith, c.requires.2 c.if-base-ne-NONE.true)
 
-returns : tie.Need-returns
-returns c = rw (ne_eqb _ absent c.if1.true)
+returns-then-base-ne-NONE : tie.Need-returns-then-base-ne-NONE
+returns-then-base-ne-NONE c = rw (ne_eqb _ absent c.if-base-ne-NONE.true)
 
-returns_2 : tie.Need-returns-2
-returns_2 c = rw (eq-eqb _ absent c.if1.false)
+returns-else-base-ne-NONE : tie.Need-returns-else-base-ne-NONE
+returns-else-base-ne-NONE c = rw (eq-eqb _ absent c.if-base-ne-NONE.false)
 
-pub note-spec : {M : Type 1} → statement M
-note-spec =
-    tie.close (tie.spec cast-index add-index mul-index element-write-index returns returns_2)
+pub note_spec : {M : Type 1} → statement M
+note_spec =
+    tie.close (tie.spec overflow_cast-index overflow_add-index offset_bounds-index-base bounds-index-base returns-then-base-ne-NONE returns-else-base-ne-NONE)

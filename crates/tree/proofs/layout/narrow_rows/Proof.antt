@@ -7,67 +7,67 @@ use Rattle.tree.proofs.Copied.{NarrowedTo, narrow_start, narrow_on, narrow_end}
 use Rattle.tree.proofs.layout.narrow_rows.Statement.{statement}
 use Rattle.tree.proofs.layout.narrow_rows.Tie as tie
 
-abbrev invariant_loop : tie.invariant_loop
-invariant_loop table n narrow₀ end i₀ narrow i = (i ≤ end) × NarrowedTo table narrow₀ i narrow
+abbrev invariant-loop-i : tie.invariant-loop-i
+invariant-loop-i table n narrow₀ end i₀ narrow i = (i ≤ end) × NarrowedTo table narrow₀ i narrow
 
-abbrev decreases_loop : tie.decreases_loop
-decreases_loop table n narrow₀ end i₀ narrow i = end - i
+abbrev decreases-loop-i : tie.decreases-loop-i
+decreases-loop-i table n narrow₀ end i₀ narrow i = end - i
 
-mul-end : tie.Need-overflow-mul-end invariant_loop decreases_loop
-mul-end c = search rules
+overflow_mul-end : tie.Need-overflow_mul-end invariant-loop-i decreases-loop-i
+overflow_mul-end c = search rules
 
-loop_holds : tie.Need-loop-init invariant_loop decreases_loop
-loop_holds c = (omega arith, narrow_start _ _)
+loop-i-init : tie.Need-loop-i-init invariant-loop-i decreases-loop-i
+loop-i-init c = (omega arith, narrow_start _ _)
 
-mul-narrow : tie.Need-overflow-mul-narrow invariant_loop decreases_loop
-mul-narrow c = search rules
+overflow_mul-narrow : tie.Need-overflow_mul-narrow invariant-loop-i decreases-loop-i
+overflow_mul-narrow c = search rules
 
-add-narrow : tie.Need-overflow-add-narrow invariant_loop decreases_loop
-add-narrow c = search rules
+overflow_add-narrow : tie.Need-overflow_add-narrow invariant-loop-i decreases-loop-i
+overflow_add-narrow c = search rules
 
-mul-narrow-2 : tie.Need-overflow-mul-narrow-2 invariant_loop decreases_loop
-mul-narrow-2 c = search rules
+offset_bounds-table-i : tie.Need-offset_bounds-table-i invariant-loop-i decreases-loop-i
+offset_bounds-table-i c = search rules
 
-shared-slice-read-narrow : tie.Need-shared-slice-read-narrow invariant_loop decreases_loop
-shared-slice-read-narrow c = omega arith
+bounds-table-i : tie.Need-bounds-table-i invariant-loop-i decreases-loop-i
+bounds-table-i c = omega arith
 
-mul-narrow-3 : tie.Need-overflow-mul-narrow-3 invariant_loop decreases_loop
-mul-narrow-3 c = search rules
+offset_bounds-narrow-i : tie.Need-offset_bounds-narrow-i invariant-loop-i decreases-loop-i
+offset_bounds-narrow-i c = search rules
 
-slice-write-narrow : tie.Need-slice-write-narrow invariant_loop decreases_loop
-slice-write-narrow c = omega (arith, c.before.before.loop.invariant.1.long)
+bounds-narrow-i : tie.Need-bounds-narrow-i invariant-loop-i decreases-loop-i
+bounds-narrow-i c = omega (arith, c.loop-i.invariant.1.long)
 
-add-i : tie.Need-overflow-add-i invariant_loop decreases_loop
-add-i c = search rules
+overflow_add-i : tie.Need-overflow_add-i invariant-loop-i decreases-loop-i
+overflow_add-i c = search rules
 
-loop_less : tie.Need-loop-smaller invariant_loop decreases_loop
-loop_less c = search rules
+loop-i-smaller : tie.Need-loop-i-smaller invariant-loop-i decreases-loop-i
+loop-i-smaller c = search rules
 
-loop_again : tie.Need-loop-preserved invariant_loop decreases_loop
-loop_again c = (omega arith, narrow_on c.before.before.loop.invariant.1 (omega arith) refl)
+loop-i-preserved : tie.Need-loop-i-preserved invariant-loop-i decreases-loop-i
+loop-i-preserved c = (omega arith, narrow_on c.loop-i.invariant.1 (omega arith) refl)
 
-same_length : tie.Need-same-length invariant_loop decreases_loop
-same_length c = c.before.loop.invariant.1.long
+shape_of-narrow : tie.Need-shape_of-narrow invariant-loop-i decreases-loop-i
+shape_of-narrow c = c.loop-i.invariant.1.long
 
-returns : tie.Need-returns invariant_loop decreases_loop
-returns c = narrow_end c.before.loop.invariant.1 c.before.before.args.n (omega arith)
+returns : tie.Need-returns invariant-loop-i decreases-loop-i
+returns c = narrow_end c.loop-i.invariant.1 c.args.n (omega arith)
 
-pub narrow-rows-spec : {M : Type 1} → statement M
-narrow-rows-spec =
+pub narrow_rows_spec : {M : Type 1} → statement M
+narrow_rows_spec =
     tie.close
     (tie.spec
-    invariant_loop
-    decreases_loop
-    mul-end
-    loop_holds
-    mul-narrow
-    add-narrow
-    mul-narrow-2
-    shared-slice-read-narrow
-    mul-narrow-3
-    slice-write-narrow
-    add-i
-    loop_less
-    loop_again
-    same_length
+    invariant-loop-i
+    decreases-loop-i
+    overflow_mul-end
+    loop-i-init
+    overflow_mul-narrow
+    overflow_add-narrow
+    offset_bounds-table-i
+    bounds-table-i
+    offset_bounds-narrow-i
+    bounds-narrow-i
+    overflow_add-i
+    loop-i-smaller
+    loop-i-preserved
+    shape_of-narrow
     returns)

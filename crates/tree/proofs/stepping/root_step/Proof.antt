@@ -6,21 +6,21 @@ use Rattle.meaning.specs.Numbers.{absent}
 use Rattle.tree.proofs.stepping.root_step.Statement.{statement}
 use Rattle.tree.proofs.stepping.root_step.Tie as tie
 
-mul_wide : tie.Need-overflow-mul-wide
-mul_wide c = search rules
+offset_bounds-index-a : tie.Need-offset_bounds-index-a
+offset_bounds-index-a c = search rules
 
-element-copy-out-wide : tie.Need-element-copy-out-wide
-element-copy-out-wide c = search rules
+bounds-index-a : tie.Need-bounds-index-a
+bounds-index-a c = search rules
 
-wide-requires : tie.Need-wide-requires
-wide-requires c κs = search rules
+wide-c-requires : tie.Need-wide-c-requires
+wide-c-requires c κs = search rules
+
+returns-then-c-eq-NONE : tie.Need-returns-then-c-eq-NONE
+returns-then-c-eq-NONE c = rw (eq-eqb _ absent (sym c.wide-c.ensures.0 ∙ c.if-c-eq-NONE.true))
 
 returns : tie.Need-returns
-returns c = rw (eq-eqb _ absent (sym c.before.wide.ensures.0 ∙ c.if1.true))
+returns c = rw (ne_eqb _ absent (λ e. c.if-c-eq-NONE.false (c.wide-c.ensures.0 ∙ e))) c.wide-c.ensures.0
 
-returns_2 : tie.Need-returns-2
-returns_2 c = rw (ne_eqb _ absent (λ e. c.if1.false (c.before.wide.ensures.0 ∙ e))) c.before.wide.ensures.0
-
-pub root-step-spec : {M : Type 1} → statement M
-root-step-spec =
-    tie.close (tie.spec mul_wide element-copy-out-wide wide-requires returns returns_2)
+pub root_step_spec : {M : Type 1} → statement M
+root_step_spec =
+    tie.close (tie.spec offset_bounds-index-a bounds-index-a wide-c-requires returns-then-c-eq-NONE returns)

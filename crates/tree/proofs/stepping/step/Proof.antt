@@ -19,69 +19,64 @@ record Climbing (X S : Words) (t index : List ℕ) (u : Word) (a v : ℕ) : Type
   here : Bordered X S t index v
   is : nearest S S (snoc u a) ≡ nearest S S (snoc (word S v) a)
 
-abbrev invariant_loop : tie.invariant_loop
-invariant_loop table index s a v₀ v = (X S : Words) → Bordered X S table index s → Climbing X S table index (word S s) a v
+abbrev invariant-loop-v : tie.invariant-loop-v
+invariant-loop-v table index s a v₀ v = (X S : Words) → Bordered X S table index s → Climbing X S table index (word S s) a v
 
-abbrev decreases_loop : tie.decreases_loop
-decreases_loop table index s a v₀ v = field_at table v depth_field
+abbrev decreases-loop-v : tie.decreases-loop-v
+decreases-loop-v table index s a v₀ v = field_at table v depth_field
 
 at : {X S : Words} {t index : List ℕ} {v : ℕ} → Bordered X S t index v → IndexedAt X S t index v
 at β = record { at = record { tree = β.tree; inside = β.inside }; indexed = β.indexed }
 
-loop_holds : tie.Need-loop-init invariant_loop decreases_loop
-loop_holds c X S β = record { here = β; is = refl }
+loop-v-init : tie.Need-loop-v-init invariant-loop-v decreases-loop-v
+loop-v-init c X S β = record { here = β; is = refl }
 
-child-of-requires : tie.Need-child-of-requires invariant_loop decreases_loop
-child-of-requires c κs =
-    let pre = c.before.before.before.requires in
-    let h = c.before.loop.invariant _ _ pre.0.2 in
+child_of-c-requires : tie.Need-child_of-c-requires invariant-loop-v decreases-loop-v
+child_of-c-requires c κs =
+    let pre = c.requires in
+    let h = c.loop-v.invariant _ _ pre.0.2 in
     ((pre.0.0, pre.0.1, at h.here), pre.1)
 
-returns : tie.Need-returns invariant_loop decreases_loop
-returns c X S β =
-    let h = c.before.before.before.loop.invariant X S β in
-    h.is ∙ by_child h.here _ (c.before.child-of.ensures X S (at h.here)) c.if1.true
+returns-then-c-ne-NONE : tie.Need-returns-then-c-ne-NONE invariant-loop-v decreases-loop-v
+returns-then-c-ne-NONE c X S β =
+    let h = c.loop-v.invariant X S β in
+    h.is ∙ by_child h.here _ (c.child_of-c.ensures X S (at h.here)) c.if-c-ne-NONE.true
 
-border-requires : tie.Need-border-requires invariant_loop decreases_loop
-border-requires c κs =
-    let head = c.before.before.before in
-    let β = (head.loop.invariant _ _ head.before.before.requires.0.2).here in
+border-v-requires : tie.Need-border-v-requires invariant-loop-v decreases-loop-v
+border-v-requires c κs =
+    let β = (c.loop-v.invariant _ _ c.requires.0.2).here in
     state_row β.tree β.inside
 
-loop_less : tie.Need-loop-smaller invariant_loop decreases_loop
-loop_less c =
-    let turn = c.before.before.before in
-    let head = turn.before in
-    (up (head.loop.invariant _ _ head.before.before.requires.0.2).here c.border.ensures.is turn.loop-test.true).step.less
+loop-v-smaller : tie.Need-loop-v-smaller invariant-loop-v decreases-loop-v
+loop-v-smaller c =
+    (up (c.loop-v.invariant _ _ c.requires.0.2).here c.border-v.ensures.is c.loop-v-test.true).step.less
 
-loop_again : tie.Need-loop-preserved invariant_loop decreases_loop
-loop_again c X S β =
-    let turn = c.before.before.before in
-    let h = turn.before.loop.invariant X S β in
-    let gone = no_child h.here _ (c.before.before.child-of.ensures X S (at h.here)) c.before.if1.false in
-    let next = up h.here c.border.ensures.is turn.loop-test.true in
+loop-v-preserved : tie.Need-loop-v-preserved invariant-loop-v decreases-loop-v
+loop-v-preserved c X S β =
+    let h = c.loop-v.invariant X S β in
+    let gone = no_child h.here _ (c.child_of-c.ensures X S (at h.here)) c.if-c-ne-NONE.false in
+    let next = up h.here c.border-v.ensures.is c.loop-v-test.true in
     record { here = next.bordered; is = h.is ∙ by_border h.here _ gone next }
 
-root-step-requires : tie.Need-root-step-requires invariant_loop decreases_loop
-root-step-requires c κs = c.before.before.before.requires.1
+root_step-requires : tie.Need-root_step-requires invariant-loop-v decreases-loop-v
+root_step-requires c κs = c.requires.1
 
-returns_2 : tie.Need-returns-2 invariant_loop decreases_loop
-returns_2 c X S β =
-    let head = c.before.before in
-    let h = head.loop.invariant X S β in
-    h.is ∙ by_index h.here _ head.before.before.requires.1 c.before.loop-test.false ∙ ap some (rw c.root-step.ensures)
+returns : tie.Need-returns invariant-loop-v decreases-loop-v
+returns c X S β =
+    let h = c.loop-v.invariant X S β in
+    h.is ∙ by_index h.here _ c.requires.1 c.loop-v-test.false ∙ ap some (rw c.root_step.ensures)
 
 pub step_spec : {M : Type 1} → statement M
 step_spec =
     tie.close
     (tie.spec
-    invariant_loop
-    decreases_loop
-    loop_holds
-    child-of-requires
-    returns
-    border-requires
-    loop_less
-    loop_again
-    root-step-requires
-    returns_2)
+    invariant-loop-v
+    decreases-loop-v
+    loop-v-init
+    child_of-c-requires
+    returns-then-c-ne-NONE
+    border-v-requires
+    loop-v-smaller
+    loop-v-preserved
+    root_step-requires
+    returns)
