@@ -10,7 +10,7 @@ use tree::{
 };
 
 // How many states the table has, and how long its longest chain is.
-#[derive(Drop)]
+#[derive(Clone, Copy)]
 pub struct Built {
     pub states: usize,
     pub longest: usize,

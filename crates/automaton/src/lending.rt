@@ -11,7 +11,7 @@ use crate::rows::{copy_numbers, same_numbers};
 use tree::{Form, MOST_NUMBERS, row_width};
 
 // What a lent table is: shorter than the rows of the states (7), with other rows (8), or right.
-#[derive(Drop)]
+#[derive(Clone, Copy)]
 pub enum Judged {
     Short,
     Other,
@@ -19,7 +19,7 @@ pub enum Judged {
 }
 
 // What became of a lent table: it is too short (7), or holds the rows of so many states, with the longest chain.
-#[derive(Drop)]
+#[derive(Clone, Copy)]
 pub enum Wrote {
     Short,
     Rows { states: usize, longest: usize },

@@ -28,7 +28,7 @@ fn add_capped(a: u64, b: u64) -> u64
 }
 
 // The counts before the words that end at a position, added up, and how many words these are.
-#[derive(Drop)]
+#[derive(Clone, Copy)]
 pub struct Tally {
     pub count: u64,
     pub probes: u32,
@@ -58,7 +58,7 @@ fn tally_at(table: &[u16], counts: &[u64], s: usize, i: usize) -> Tally
 }
 
 // What the columns have at a position, and how many words end there.
-#[derive(Drop)]
+#[derive(Clone, Copy)]
 pub struct Entry {
     pub state: usize,
     pub count: u64,

@@ -8,7 +8,7 @@ use crate::reaching::farthest;
 use tree::child_index;
 
 // What a scan tells: how far the text can be read, the count at its end, and the probes.
-#[derive(Drop)]
+#[derive(Clone, Copy)]
 pub struct Findings {
     pub farthest: usize,
     pub count: u64,

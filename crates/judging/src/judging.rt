@@ -14,7 +14,7 @@ use records::Dictionary;
 use tree::Form;
 
 // Nothing is refused so far; or a refusal.
-#[derive(Drop)]
+#[derive(Clone, Copy)]
 pub enum Verdict {
     Passed,
     Refused { number: u16, place: u16 },

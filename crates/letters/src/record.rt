@@ -8,7 +8,7 @@ use crate::limits::{
 };
 
 // What stands where a word is due.
-#[derive(Drop)]
+#[derive(Clone, Copy)]
 pub enum Record {
     // The bytes are at their end.
     End,
@@ -21,7 +21,7 @@ pub enum Record {
 }
 
 // What stands where a block is due.
-#[derive(Drop)]
+#[derive(Clone, Copy)]
 pub enum BlockRecord {
     // The bytes are at their end.
     End,

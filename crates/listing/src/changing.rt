@@ -10,7 +10,7 @@ use tree::{NONE, depth, link, wide};
 
 // The word at `state` is put in the place of one that also ends at position `end`; the words from entry `kept` on stay. No change
 // where the state is none.
-#[derive(Drop)]
+#[derive(Clone, Copy)]
 pub struct Change {
     pub state: usize,
     pub end: usize,

@@ -14,7 +14,7 @@ use crate::shifting::shift;
 use tree::{NONE, depth, word};
 
 // No reading (after the given one), a buffer too short for it, or the number of its words, which are written.
-#[derive(Drop)]
+#[derive(Clone, Copy)]
 pub enum Listed {
     Nothing,
     Short,

@@ -10,7 +10,7 @@ use listing::longest_ending;
 use tree::{NONE, depth, link, word};
 
 // A word that ends at a position, by its state, and a number of readings.
-#[derive(Drop)]
+#[derive(Clone, Copy)]
 pub struct Chosen {
     pub state: usize,
     pub number: u64,

@@ -9,7 +9,7 @@ use crate::lasts::ahead_of;
 use tree::{NONE, depth, wide};
 
 // No reading of the text, or its number.
-#[derive(Drop)]
+#[derive(Clone, Copy)]
 pub enum Placed {
     Nowhere,
     At(u64),

@@ -1,7 +1,7 @@
 // What the calls tell.
 
 // The number of words and of states, and the length of the longest chain; or a refusal.
-#[derive(Drop)]
+#[derive(Clone, Copy)]
 pub enum BuildAnswer {
     Built {
         words: u16,
@@ -15,7 +15,7 @@ pub enum BuildAnswer {
 }
 
 // Whether the text is accepted, the farthest position, the count at the end, and the probes; or a refusal.
-#[derive(Drop)]
+#[derive(Clone, Copy)]
 pub enum ScanAnswer {
     Scanned {
         accepted: bool,
@@ -30,14 +30,14 @@ pub enum ScanAnswer {
 }
 
 // The number of words written, by first or by jump; or a refusal.
-#[derive(Drop)]
+#[derive(Clone, Copy)]
 pub enum FirstAnswer {
     Words { words: u16 },
     Refused { number: u16, place: u16 },
 }
 
 // The number of words written; or that the given reading is the last; or a refusal.
-#[derive(Drop)]
+#[derive(Clone, Copy)]
 pub enum NextAnswer {
     Words { words: u16 },
     End,
@@ -45,21 +45,21 @@ pub enum NextAnswer {
 }
 
 // The number of the given reading; or a refusal.
-#[derive(Drop)]
+#[derive(Clone, Copy)]
 pub enum PlaceAnswer {
     At { n: u64 },
     Refused { number: u16, place: u16 },
 }
 
 // The number of words and of blocks; or a refusal.
-#[derive(Drop)]
+#[derive(Clone, Copy)]
 pub enum BookAnswer {
     Blocks { words: u16, blocks: u16 },
     Refused { number: u16, place: u16 },
 }
 
 // The offset of a block's text in its book, and its length.
-#[derive(Drop)]
+#[derive(Clone, Copy)]
 pub struct BlockPart {
     pub start: usize,
     pub len: usize,

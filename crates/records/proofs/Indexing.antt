@@ -17,7 +17,7 @@ use Rattle.letters.specs.declared.record.Record.TheVariants.{End, Block, Word, B
 use Rattle.records.specs.Run.{record_after}
 use Rattle.records.specs.Stored.{Holds}
 use Rattle.records.specs.Classes.{classes, class_of, up_to_last, entries, older_at, place_at, Indexed, noted, ReadAfter}
-use Rattle.records.proofs.Classes.{class_below, last, last_kept, last_new, last_other}
+use Rattle.records.proofs.Classes.{class_below, last_kept, last_new, last_other}
 
 -- what the index has after `noted`
 module _ (index : List ℕ) (c q at : ℕ) (long : length index ≡ entries) (hc : c < classes) (hq : 0 < q) (few : q ≤ most_words) where

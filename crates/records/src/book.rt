@@ -10,7 +10,7 @@ use crate::dictionary::{Dictionary, word_run};
 use letters::{BlockRecord, LONGEST_BOOK, block_at};
 
 // So many words and blocks, and the offset of the first block record; or a refusal.
-#[derive(Drop)]
+#[derive(Clone, Copy)]
 pub enum Book {
     Blocks { words: u16, blocks: u16, start: u16 },
     Refused { number: u16, place: u16 },
@@ -74,7 +74,7 @@ pub fn check_book(map: &[u8], book: &[u8]) -> Book
 }
 
 // A part of a book: its offset and its length.
-#[derive(Drop)]
+#[derive(Clone, Copy)]
 pub struct Part {
     pub start: usize,
     pub len: usize,

@@ -10,7 +10,7 @@ use crate::repeats::{ENTRIES, class_of, note, repeated};
 use letters::{MOST_LETTERS, MOST_WORDS, Record, record_at, word_len};
 
 // How a run of word records ends: so many words with so many letters, and the offset past them; or a refusal.
-#[derive(Drop)]
+#[derive(Clone, Copy)]
 pub enum Dictionary {
     Words { words: u16, letters: u16, end: u16 },
     Refused { number: u16, place: u16 },

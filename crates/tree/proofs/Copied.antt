@@ -9,7 +9,7 @@ use native.Mathlib.Numerals.{add-one}
 use native.Mathlib.Omega.{arith}
 use lib.Dec.{eqb}
 use lib.ListN.{length, get_or, take, drop, set, length-append, length-take, length-drop, length-set}
-use lib.Seq.{take-suc, get_or-take, get_or-set_same, get_or-set_other, length-take-le, paste, paste-suc}
+use lib.Seq.{get_or-set_same, get_or-set_other, length-take-le, paste, paste-suc}
 use Rattle.meaning.specs.Words.{same, if◌then◌else◌}
 use Rattle.meaning.specs.Table.{width, narrow_width, over}
 use Rattle.tree.specs.Layout.{Narrowed}

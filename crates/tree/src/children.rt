@@ -9,7 +9,7 @@ ghost use Rattle.tree.specs.Insertion.{Sought};
 use crate::layout::{NONE, first_child, letter, next_sibling};
 
 // The child of a state with the least letter not below a given one, and the child before it.
-#[derive(Drop)]
+#[derive(Clone, Copy)]
 pub struct Place {
     pub before: usize,
     pub next: usize,

@@ -12,7 +12,7 @@ use crate::index::{INDEX_LENGTH, OWNERS, ROWS, block_of, seek_root};
 use crate::layout::{NONE, add_row, letter, set_first_child, set_next_sibling, set_word, wide};
 
 // A state of a tree of so many states.
-#[derive(Drop)]
+#[derive(Clone, Copy)]
 pub struct Reached {
     pub state: usize,
     pub count: usize,

@@ -7,7 +7,7 @@ ghost use Rattle.tree.specs.Layout.{HasRow, Reads, set_field, new_row, Narrowed}
 ghost use Rattle.tree.specs.Forms.{width_in};
 
 // The two forms of a table: with the length of each state's chain, and without it, as tables in the field are.
-#[derive(Drop)]
+#[derive(Clone, Copy)]
 pub enum Form {
     Wide,
     Narrow,

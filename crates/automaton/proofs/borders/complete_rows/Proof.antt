@@ -10,68 +10,66 @@ use Rattle.automaton.proofs.Breadth.{Going, begins, takes, goes, ends, queue_fit
 use Rattle.automaton.proofs.borders.complete_rows.Statement.{statement}
 use Rattle.automaton.proofs.borders.complete_rows.Tie as tie
 
-abbrev invariant_loop : tie.invariant_loop
-invariant_loop table₀ index queue₀ head₀ tail₀ table queue head tail =
+abbrev invariant-loop-head : tie.invariant-loop-head
+invariant-loop-head table₀ index queue₀ head₀ tail₀ table queue head tail =
     (X S : Words) → Growing X S table₀ index (length S) → Going X S table₀ table index queue head tail
 
-abbrev decreases_loop : tie.decreases_loop
-decreases_loop table₀ index queue₀ head₀ tail₀ table queue head tail = most_states - head
+abbrev decreases-loop-head : tie.decreases-loop-head
+decreases-loop-head table₀ index queue₀ head₀ tail₀ table queue head tail = most_states - head
 
-loop_holds : tie.Need-loop-init invariant_loop decreases_loop
-loop_holds c X S γ = begins γ (omega arith) refl
+loop-head-init : tie.Need-loop-head-init invariant-loop-head decreases-loop-head
+loop-head-init c X S γ = begins γ (omega arith) refl
 
 -- in a turn the head is a place of the queue
-within : (c : tie.In-loop invariant_loop decreases_loop) → c.before.loop.head < most_states
-within c = omega (arith, queue_fits (c.before.loop.invariant _ _ c.before.before.before.requires.2).queued, c.loop-test.true)
+within : (c : tie.In-loop-head invariant-loop-head decreases-loop-head) → c.loop-head.head < most_states
+within c = omega (arith, queue_fits (c.loop-head.invariant _ _ c.requires.2).queued, c.loop-head-test.true)
 
-mul_wide : tie.Need-overflow-mul-wide invariant_loop decreases_loop
-mul_wide c = omega (arith, within c)
+offset_bounds-queue-head : tie.Need-offset_bounds-queue-head invariant-loop-head decreases-loop-head
+offset_bounds-queue-head c = omega (arith, within c)
 
-array-read-wide : tie.Need-array-read-wide invariant_loop decreases_loop
-array-read-wide c = omega (arith, within c)
+bounds-queue-head : tie.Need-bounds-queue-head invariant-loop-head decreases-loop-head
+bounds-queue-head c = omega (arith, within c)
 
-wide-requires : tie.Need-wide-requires invariant_loop decreases_loop
-wide-requires c κs = tt
+wide-p-requires : tie.Need-wide-p-requires invariant-loop-head decreases-loop-head
+wide-p-requires c κs = tt
 
-take-out-requires : tie.Need-take-out-requires invariant_loop decreases_loop
-take-out-requires c κs =
-    let turn = c.before.before.before in
-    let pre = turn.before.before.before.requires in
-    (pre.0, pre.1, takes (turn.before.loop.invariant _ _ pre.2) turn.loop-test.true c.before.before.wide.ensures.0)
+take_out-tail-requires : tie.Need-take_out-tail-requires invariant-loop-head decreases-loop-head
+take_out-tail-requires c κs =
+    let pre = c.requires in
+    (pre.0, pre.1, takes (c.loop-head.invariant _ _ pre.2) c.loop-head-test.true c.wide-p.ensures.0)
 
-add-head : tie.Need-overflow-add-head invariant_loop decreases_loop
-add-head c = omega (arith, within c.before.before.before.before.before.before)
+overflow_add-head : tie.Need-overflow_add-head invariant-loop-head decreases-loop-head
+overflow_add-head c = omega (arith, within c.before.before.before.before.before.before)
 
-loop_less : tie.Need-loop-smaller invariant_loop decreases_loop
-loop_less c = omega (arith, within c.before.before.before.before.before.before)
+loop-head-smaller : tie.Need-loop-head-smaller invariant-loop-head decreases-loop-head
+loop-head-smaller c = omega (arith, within c.before.before.before.before.before.before)
 
-loop_again : tie.Need-loop-preserved invariant_loop decreases_loop
-loop_again c X S γ =
-    let turn = c.before.before.before.before.before.before in
-    let φ = turn.before.loop.invariant X S γ in
-    let h = turn.loop-test.true in
-    let here = c.before.before.before.before.before.wide.ensures.0 in
-    goes φ h here (c.before.before.take_out.ensures X S (takes φ h here))
+loop-head-preserved : tie.Need-loop-head-preserved invariant-loop-head decreases-loop-head
+loop-head-preserved c X S γ =
+    let φ = c.loop-head.invariant X S γ in
+    let h = c.loop-head-test.true in
+    let here = c.wide-p.ensures.0 in
+    goes φ h here (c.take_out-tail.ensures X S (takes φ h here))
 
-same_length : tie.Need-same-length invariant_loop decreases_loop
-same_length c = (c.before.loop.invariant _ _ c.before.before.before.requires.2).same.long
+shape_of-table : tie.Need-shape_of-table invariant-loop-head decreases-loop-head
+shape_of-table c = (c.loop-head.invariant _ _ c.requires.2).same.long
 
-returns : tie.Need-returns invariant_loop decreases_loop
-returns c X S γ = ends (c.before.loop.invariant X S γ) c.loop-test.false
+returns : tie.Need-returns invariant-loop-head decreases-loop-head
+returns c X S γ = ends (c.loop-head.invariant X S γ) c.loop-head-test.false
 
-pub complete-rows-spec : {M : Type 1} → statement M
-complete-rows-spec =
+pub complete_rows_spec : {M : Type 1} → statement M
+complete_rows_spec =
     tie.close
     (tie.spec
-    invariant_loop
-    decreases_loop
-    loop_holds
-    mul_wide
-    array-read-wide
-    wide-requires
-    take-out-requires
-    add-head
-    loop_less
-    loop_again
-    same_length
+    invariant-loop-head
+    decreases-loop-head
+    loop-head-init
+    offset_bounds-queue-head
+    bounds-queue-head
+    wide-p-requires
+    take_out-tail-requires
+    overflow_add-head
+    loop-head-smaller
+    loop-head-preserved
+    shape_of-table
     returns)

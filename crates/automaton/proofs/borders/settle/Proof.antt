@@ -10,124 +10,105 @@ use Rattle.automaton.proofs.borders.settle.Statement.{statement}
 use Rattle.automaton.proofs.borders.settle.Tie as tie
 
 border-requires : tie.Need-border-requires
-border-requires c κs = child_row c.before.before.requires.2
+border-requires c κs = child_row c.requires.2
 
-same_length : tie.Need-same-length
-same_length c = search rules
+shape_of-table-then-border-ne-NONE : tie.Need-shape_of-table-then-border-ne-NONE
+shape_of-table-then-border-ne-NONE c = search rules
 
-returns : tie.Need-returns
-returns c X S σ = passes σ (λ e. c.if1.true (c.before.border.ensures.is ∙ e))
+returns-then-border-ne-NONE : tie.Need-returns-then-border-ne-NONE
+returns-then-border-ne-NONE c X S σ = passes σ (λ e. c.if-border-ne-NONE.true (c.border.ensures.is ∙ e))
 
 letter-requires : tie.Need-letter-requires
-letter-requires c κs = child_row c.before.before.before.before.before.requires.2
+letter-requires c κs = child_row c.requires.2
 
-child-border-requires : tie.Need-child-border-requires
-child-border-requires c κs =
-    let pre = c.before.before.before.before.before.before.requires in
+child_border-b-requires : tie.Need-child_border-b-requires
+child_border-b-requires c κs =
+    let pre = c.requires in
     ((pre.0, pre.1, bordered pre.2.taking), rw c.letter.ensures.is (child_byte pre.2))
 
-first-word-requires : tie.Need-first-word-requires
-first-word-requires c κs =
-    let read = c.before.before in
-    let pre = read.before.before.before.before.before.before.requires in
-    (pre.0, pre.1, border_linked pre.2 read.letter.ensures.is (c.before.child-border.ensures _ _ (bordered pre.2.taking)))
+first_word-l-requires : tie.Need-first_word-l-requires
+first_word-l-requires c κs =
+    let pre = c.requires in
+    (pre.0, pre.1, border_linked pre.2 c.letter.ensures.is (c.child_border-b.ensures _ _ (bordered pre.2.taking)))
 
-count-chain-requires : tie.Need-count-chain-requires
-count-chain-requires c κs =
-    let found = c.before.before.before in
-    let pre = found.before.before.before.before.before.before.before.requires in
-    (pre.0, pre.1, border_counted pre.2 found.before.letter.ensures.is (found.child-border.ensures _ _ (bordered pre.2.taking)))
-
--- the numbers that are written for the child are found
-abbrev entry : tie.After-count-chain → tie.Start
-entry c = c.before.before.before.before.before.before.before.before.before.before.before
+count_chain-k-requires : tie.Need-count_chain-k-requires
+count_chain-k-requires c κs =
+    let pre = c.requires in
+    (pre.0, pre.1, border_counted pre.2 c.letter.ensures.is (c.child_border-b.ensures _ _ (bordered pre.2.taking)))
 
 -- .. in 16 bits
-small : (c : tie.After-count-chain) → let found = c.before.before.before.before in
-    (found.child-border.result ≤ absent) × (c.before.before.first_word.result ≤ absent) × (c.count-chain.result ≤ absent)
+small : (c : tie.After-count_chain-k) → (c.child_border-b.result ≤ absent) × (c.first_word-l.result ≤ absent) × (c.count_chain-k.result ≤ absent)
 small c =
-    let σ = (entry c).requires.2 in
-    let found = c.before.before.before.before in
-    let read = found.before.letter.ensures.is in
-    let is = found.child-border.ensures _ _ (bordered σ.taking) in
-    all_small σ read is (c.before.before.first_word.ensures _ _ (border_linked σ read is)) (c.count-chain.ensures _ _ (border_counted σ read is))
+    let σ = c.requires.2 in
+    let read = c.letter.ensures.is in
+    let is = c.child_border-b.ensures _ _ (bordered σ.taking) in
+    all_small σ read is (c.first_word-l.ensures _ _ (border_linked σ read is)) (c.count_chain-k.ensures _ _ (border_counted σ read is))
 
-set-border-requires : tie.Need-set-border-requires
-set-border-requires c κs = let (border, link, chain) = small c.before in (child_row (entry c.before).requires.2, omega arith)
+set_border-requires : tie.Need-set_border-requires
+set_border-requires c κs = let (border, link, chain) = small c.before in (child_row c.requires.2, omega arith)
 
-set-link-requires : tie.Need-set-link-requires
-set-link-requires c κs =
-    let counted = c.before.before.before.before.before in
-    let (border, link, chain) = small counted in
-    (omega (arith, c.before.before.before.set-border.auto.0, child_row (entry counted).requires.2), omega arith)
+set_link-requires : tie.Need-set_link-requires
+set_link-requires c κs =
+    let (border, link, chain) = small c.before.before.before.before.before in
+    (omega (arith, c.set_border.auto.table, child_row c.requires.2), omega arith)
 
-set-chain-length-requires : tie.Need-set-chain-length-requires
-set-chain-length-requires c κs =
-    let bordered = c.before.before.before.before.before.before.before in
-    let counted = bordered.before.before in
-    let (border, link, chain) = small counted in
-    (omega (arith, c.before.before.before.set_link.auto.0, bordered.set-border.auto.0, child_row (entry counted).requires.2), omega arith)
+set_chain_length-requires : tie.Need-set_chain_length-requires
+set_chain_length-requires c κs =
+    let (border, link, chain) = small c.before.before.before.before.before.before.before.before.before in
+    (omega (arith, c.set_link.auto.table, c.set_border.auto.table, child_row c.requires.2), omega arith)
 
-cast-queue : tie.Need-overflow-cast-queue
-cast-queue c =
-    let σ = (entry c.before.before.before.before.before.before.before.before.before.before.before.before).requires.2 in
+overflow_cast-queue : tie.Need-overflow_cast-queue
+overflow_cast-queue c =
+    let σ = c.requires.2 in
     omega (arith, child_inside σ, σ.taking.queued.tree.states.few)
 
-mul-queue : tie.Need-overflow-mul-queue
-mul-queue c = search rules
+offset_bounds-queue-tail : tie.Need-offset_bounds-queue-tail
+offset_bounds-queue-tail c = search rules
 
 -- where a state joins the queue, there is room
-element-write-queue : tie.Need-element-write-queue
-element-write-queue c =
-    let counted = c.before.before.before.before.before.before.before.before.before.before.before.before in
-    let linked = counted.before.before in
-    let found = linked.before.before in
-    let chosen = found.before.before.before in
-    let σ = (entry counted).requires.2 in
-    let read = found.before.letter.ensures.is in
-    let is = found.child-border.ensures _ _ (bordered σ.taking) in
-    room σ read is (linked.first_word.ensures _ _ (border_linked σ read is)) (counted.count-chain.ensures _ _ (border_counted σ read is))
-    (sym chosen.before.border.ensures.is ∙ chosen.if1.false)
+bounds-queue-tail : tie.Need-bounds-queue-tail
+bounds-queue-tail c =
+    let σ = c.requires.2 in
+    let read = c.letter.ensures.is in
+    let is = c.child_border-b.ensures _ _ (bordered σ.taking) in
+    room σ read is (c.first_word-l.ensures _ _ (border_linked σ read is)) (c.count_chain-k.ensures _ _ (border_counted σ read is))
+    (sym c.border.ensures.is ∙ c.if-border-ne-NONE.false)
 
-add-result : tie.Need-overflow-add-result
-add-result c = search rules
+overflow_add-result : tie.Need-overflow_add-result
+overflow_add-result c = search rules
 
-same-length-2 : tie.Need-same-length-2
-same-length-2 c = search rules
+shape_of-table : tie.Need-shape_of-table
+shape_of-table c = search rules
 
-returns_2 : tie.Need-returns-2
-returns_2 c X S σ =
-    let counted = c.before.before.before.before.before.before.before.before.before.before.before.before in
-    let linked = counted.before.before in
-    let found = linked.before.before in
-    let chosen = found.before.before.before in
-    let read = found.before.letter.ensures.is in
-    let is = found.child-border.ensures X S (bordered σ.taking) in
+returns : tie.Need-returns
+returns c X S σ =
+    let read = c.letter.ensures.is in
+    let is = c.child_border-b.ensures X S (bordered σ.taking) in
     rw (
-      c.before.before.set-chain-length.ensures,
-      c.before.before.before.before.before.before.set_link.ensures,
-      c.before.before.before.before.before.before.before.before.before.before.set-border.ensures,
+      c.set_chain_length.ensures,
+      c.set_link.ensures,
+      c.set_border.ensures,
     )
-    (settles σ read is (linked.first_word.ensures X S (border_linked σ read is)) (counted.count-chain.ensures X S (border_counted σ read is))
-    (sym chosen.before.border.ensures.is ∙ chosen.if1.false))
+    (settles σ read is (c.first_word-l.ensures X S (border_linked σ read is)) (c.count_chain-k.ensures X S (border_counted σ read is))
+    (sym c.border.ensures.is ∙ c.if-border-ne-NONE.false))
 
-pub settle-spec : {M : Type 1} → statement M
-settle-spec =
+pub settle_spec : {M : Type 1} → statement M
+settle_spec =
     tie.close
     (tie.spec
     border-requires
-    same_length
-    returns
+    shape_of-table-then-border-ne-NONE
+    returns-then-border-ne-NONE
     letter-requires
-    child-border-requires
-    first-word-requires
-    count-chain-requires
-    set-border-requires
-    set-link-requires
-    set-chain-length-requires
-    cast-queue
-    mul-queue
-    element-write-queue
-    add-result
-    same-length-2
-    returns_2)
+    child_border-b-requires
+    first_word-l-requires
+    count_chain-k-requires
+    set_border-requires
+    set_link-requires
+    set_chain_length-requires
+    overflow_cast-queue
+    offset_bounds-queue-tail
+    bounds-queue-tail
+    overflow_add-result
+    shape_of-table
+    returns)

@@ -7,65 +7,59 @@ use Rattle.automaton.proofs.Queue.{Filling, fills, filled, settling, after_row, 
 use Rattle.automaton.proofs.borders.take_out.Statement.{statement}
 use Rattle.automaton.proofs.borders.take_out.Tie as tie
 
-abbrev invariant_loop : tie.invariant_loop
-invariant_loop table₀ index queue₀ end p tail₀ c₀ table queue tail c =
+abbrev invariant-loop-c : tie.invariant-loop-c
+invariant-loop-c table₀ index queue₀ end p tail₀ c₀ table queue tail c =
     (X S : Words) → Taking X S table₀ index queue₀ end p → Filling X S table₀ table index queue₀ queue end tail p c
 
-abbrev decreases_loop : tie.decreases_loop
-decreases_loop table₀ index queue₀ end p tail₀ c₀ table queue tail c = left table c
+abbrev decreases-loop-c : tie.decreases-loop-c
+decreases-loop-c table₀ index queue₀ end p tail₀ c₀ table queue tail c = left table c
 
-first-child-requires : tie.Need-first-child-requires invariant_loop decreases_loop
-first-child-requires c κs = let τ = c.before.before.requires.2 in state_row τ.queued.tree τ.inside
+first_child-c-requires : tie.Need-first_child-c-requires invariant-loop-c decreases-loop-c
+first_child-c-requires c κs = let τ = c.requires.2 in state_row τ.queued.tree τ.inside
 
-loop_holds : tie.Need-loop-init invariant_loop decreases_loop
-loop_holds c X S τ = fills τ (c.first-child.ensures.is ∙ τ.queued.tree.children _ τ.inside)
+loop-c-init : tie.Need-loop-c-init invariant-loop-c decreases-loop-c
+loop-c-init c X S τ = fills τ (c.first_child-c.ensures.is ∙ τ.queued.tree.children _ τ.inside)
 
-settle-requires : tie.Need-settle-requires invariant_loop decreases_loop
-settle-requires c κs =
-    let head = c.before.before.before in
-    let pre = head.before.before.before.before.requires in
-    (pre.0, pre.1, settling (head.loop.invariant _ _ pre.2) c.before.before.loop-test.true)
+settle-tail-requires : tie.Need-settle-tail-requires invariant-loop-c decreases-loop-c
+settle-tail-requires c κs =
+    let pre = c.requires in
+    (pre.0, pre.1, settling (c.loop-c.invariant _ _ pre.2) c.loop-c-test.true)
 
-next-sibling-requires : tie.Need-next-sibling-requires invariant_loop decreases_loop
-next-sibling-requires c κs =
-    let settled = c.before.before.before in
-    let head = settled.before.before.before.before in
-    let φ = head.loop.invariant _ _ head.before.before.before.before.requires.2 in
-    let more = settled.before.before.before.loop-test.true in
-    after_row φ more (settled.settle.ensures _ _ (settling φ more))
+next_sibling-c-requires : tie.Need-next_sibling-c-requires invariant-loop-c decreases-loop-c
+next_sibling-c-requires c κs =
+    let φ = c.loop-c.invariant _ _ c.requires.2 in
+    let more = c.loop-c-test.true in
+    after_row φ more (c.settle-tail.ensures _ _ (settling φ more))
 
-loop_less : tie.Need-loop-smaller invariant_loop decreases_loop
-loop_less c =
-    let settled = c.before.before.before.before in
-    let head = settled.before.before.before.before in
-    let φ = head.loop.invariant _ _ head.before.before.before.before.requires.2 in
-    let more = settled.before.before.before.loop-test.true in
-    rw c.next-sibling.ensures.is (fills_less φ more (settled.settle.ensures _ _ (settling φ more)))
+loop-c-smaller : tie.Need-loop-c-smaller invariant-loop-c decreases-loop-c
+loop-c-smaller c =
+    let φ = c.loop-c.invariant _ _ c.requires.2 in
+    let more = c.loop-c-test.true in
+    rw c.next_sibling-c.ensures.is (fills_less φ more (c.settle-tail.ensures _ _ (settling φ more)))
 
-loop_again : tie.Need-loop-preserved invariant_loop decreases_loop
-loop_again c X S τ =
-    let settled = c.before.before.before.before in
-    let φ = settled.before.before.before.before.loop.invariant X S τ in
-    let more = settled.before.before.before.loop-test.true in
-    rw c.next-sibling.ensures.is (fills_on φ more (settled.settle.ensures X S (settling φ more)))
+loop-c-preserved : tie.Need-loop-c-preserved invariant-loop-c decreases-loop-c
+loop-c-preserved c X S τ =
+    let φ = c.loop-c.invariant X S τ in
+    let more = c.loop-c-test.true in
+    rw c.next_sibling-c.ensures.is (fills_on φ more (c.settle-tail.ensures X S (settling φ more)))
 
-same_length : tie.Need-same-length invariant_loop decreases_loop
-same_length c = (c.before.loop.invariant _ _ c.before.before.before.before.before.requires.2).longer.grown.same.long
+shape_of-table : tie.Need-shape_of-table invariant-loop-c decreases-loop-c
+shape_of-table c = (c.loop-c.invariant _ _ c.requires.2).longer.grown.same.long
 
-returns : tie.Need-returns invariant_loop decreases_loop
-returns c X S τ = filled (c.before.loop.invariant X S τ) c.loop-test.false
+returns : tie.Need-returns invariant-loop-c decreases-loop-c
+returns c X S τ = filled (c.loop-c.invariant X S τ) c.loop-c-test.false
 
-pub take-out-spec : {M : Type 1} → statement M
-take-out-spec =
+pub take_out_spec : {M : Type 1} → statement M
+take_out_spec =
     tie.close
     (tie.spec
-    invariant_loop
-    decreases_loop
-    first-child-requires
-    loop_holds
-    settle-requires
-    next-sibling-requires
-    loop_less
-    loop_again
-    same_length
+    invariant-loop-c
+    decreases-loop-c
+    first_child-c-requires
+    loop-c-init
+    settle-tail-requires
+    next_sibling-c-requires
+    loop-c-smaller
+    loop-c-preserved
+    shape_of-table
     returns)

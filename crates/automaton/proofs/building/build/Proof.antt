@@ -3,43 +3,43 @@ use borrow.Author.Rules.{rules}
 use Rattle.automaton.proofs.building.build.Statement.{statement}
 use Rattle.automaton.proofs.building.build.Tie as tie
 
-enum_told : tie.Need-enum-told
-enum_told c = search rules
+enum_told-1 : tie.Need-enum_told-1
+enum_told-1 c = search rules
 
-build-wide-requires : tie.Need-build-wide-requires
-build-wide-requires c κs = let (X, β) = c.before.before.before.before.before.before.requires in (X, rw c.before.enum_told.given.1 at β)
+build_wide-requires : tie.Need-build_wide-requires
+build_wide-requires c κs = let (X, β) = c.requires in (X, rw c.in-Wide.is at β)
 
-enum-told-2 : tie.Need-enum-told-2
-enum-told-2 c = search rules
+enum_told-in-Narrow : tie.Need-enum_told-in-Narrow
+enum_told-in-Narrow c = search rules
 
-build-narrow-requires : tie.Need-build-narrow-requires
-build-narrow-requires c κs = let (X, β) = c.before.before.before.before.before.before.requires in (X, rw c.before.enum-told2.given.1 at β)
+build_narrow-requires : tie.Need-build_narrow-requires
+build_narrow-requires c κs = let (X, β) = c.requires in (X, rw c.in-Narrow.is at β)
 
-same_length : tie.Need-same-length
-same_length c = search rules
+shape_of-table-in-Wide : tie.Need-shape_of-table-in-Wide
+shape_of-table-in-Wide c = search rules
 
-returns : tie.Need-returns
-returns c X β =
-    let e = c.before.before.before.before.enum_told.given.1 in
-    rw e (c.before.before.build-wide.ensures X (rw e at β))
+returns-in-Wide : tie.Need-returns-in-Wide
+returns-in-Wide c X β =
+    let e = c.in-Wide.is in
+    rw e (c.build_wide.ensures X (rw e at β))
 
-same-length-2 : tie.Need-same-length-2
-same-length-2 c = search rules
+shape_of-table-in-Narrow : tie.Need-shape_of-table-in-Narrow
+shape_of-table-in-Narrow c = search rules
 
-returns_2 : tie.Need-returns-2
-returns_2 c X β =
-    let e = c.before.before.before.before.enum-told2.given.1 in
-    rw e (c.before.before.build-narrow.ensures X (rw e at β))
+returns-in-Narrow : tie.Need-returns-in-Narrow
+returns-in-Narrow c X β =
+    let e = c.in-Narrow.is in
+    rw e (c.build_narrow.ensures X (rw e at β))
 
-pub build-spec : {M : Type 1} → statement M
-build-spec =
+pub build_spec : {M : Type 1} → statement M
+build_spec =
     tie.close
     (tie.spec
-    enum_told
-    build-wide-requires
-    enum-told-2
-    build-narrow-requires
-    same_length
-    returns
-    same-length-2
-    returns_2)
+    enum_told-1
+    build_wide-requires
+    enum_told-in-Narrow
+    build_narrow-requires
+    shape_of-table-in-Wide
+    returns-in-Wide
+    shape_of-table-in-Narrow
+    returns-in-Narrow)

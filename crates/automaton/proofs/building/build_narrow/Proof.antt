@@ -9,40 +9,38 @@ use borrow.Author.Rules.{rules}
 use Rattle.automaton.proofs.building.build_narrow.Statement.{statement}
 use Rattle.automaton.proofs.building.build_narrow.Tie as tie
 
-slice-aggregate-build-wide : tie.Need-slice-aggregate-build-wide
-slice-aggregate-build-wide c = search rules
+slice_bounds-build_wide-end : tie.Need-slice_bounds-build_wide-end
+slice_bounds-build_wide-end c = search rules
 
-build-wide-requires : tie.Need-build-wide-requires
-build-wide-requires c κs = let pre = c.before.before.before.before.requires in (pre.0, roomy Wide pre.1.accepted)
+build_wide-built-requires : tie.Need-build_wide-built-requires
+build_wide-built-requires c κs = let pre = c.requires in (pre.0, roomy Wide pre.1.accepted)
 
-slice-aggregate-narrow-rows : tie.Need-slice-aggregate-narrow-rows
-slice-aggregate-narrow-rows c = search rules
+slice_bounds-narrow_rows-end : tie.Need-slice_bounds-narrow_rows-end
+slice_bounds-narrow_rows-end c = search rules
 
-narrow-rows-requires : tie.Need-narrow-rows-requires
-narrow-rows-requires c κs =
-    let made = c.before.before.before in
-    let pre = made.before.before.before.before.before.requires in
-    let β = made.build-wide.ensures _ (roomy Wide pre.1.accepted) in
+narrow_rows-requires : tie.Need-narrow_rows-requires
+narrow_rows-requires c κs =
+    let pre = c.requires in
+    let β = c.build_wide-built.ensures _ (roomy Wide pre.1.accepted) in
     let few = (allowed_bounded _ pre.1.accepted.allowed).few in
     (made_room β (end_is β refl), omega (arith, pre.1.room, β.count))
 
-same_length : tie.Need-same-length
-same_length c = search rules
+shape_of-narrow : tie.Need-shape_of-narrow
+shape_of-narrow c = search rules
 
 returns : tie.Need-returns
 returns c X ν =
-    let made = c.before.before.before.before.before.before in
-    let β = made.build-wide.ensures X (roomy Wide ν.accepted) in
+    let β = c.build_wide-built.ensures X (roomy Wide ν.accepted) in
     let few = (allowed_bounded X ν.accepted.allowed).few in
-    narrowed β (omega (arith, ν.room, β.count)) c.before.before.narrow-rows.auto.1.1.0 c.before.before.narrow-rows.ensures
+    narrowed β (omega (arith, ν.room, β.count)) c.narrow_rows.auto.narrow c.narrow_rows.ensures
 
-pub build-narrow-spec : {M : Type 1} → statement M
-build-narrow-spec =
+pub build_narrow_spec : {M : Type 1} → statement M
+build_narrow_spec =
     tie.close
     (tie.spec
-    slice-aggregate-build-wide
-    build-wide-requires
-    slice-aggregate-narrow-rows
-    narrow-rows-requires
-    same_length
+    slice_bounds-build_wide-end
+    build_wide-built-requires
+    slice_bounds-narrow_rows-end
+    narrow_rows-requires
+    shape_of-narrow
     returns)

@@ -16,42 +16,37 @@ use Rattle.automaton.proofs.building.build_wide.Tie as tie
 plantable : {X : Words} {m b t : List ℕ} {words : ℕ} → Buildable Wide X m b words t → Plantable X m b words t (replicate index_length absent)
 plantable β = record { buildable = β; empty = λ a l. get_or-replicate index_length a absent 0 l }
 
-plant-requires : tie.Need-plant-requires
-plant-requires c κs =
-    let pre = c.before.before.before.before.before.requires in
+plant-states-requires : tie.Need-plant-states-requires
+plant-states-requires c κs =
+    let pre = c.requires in
     (pre.0, plantable pre.1)
 
-complete-rows-requires : tie.Need-complete-rows-requires
-complete-rows-requires c κs =
-    let planted = c.before.before.before.before in
-    let pre = planted.before.before.before.before.before.before.requires in
-    (pre.0, _, all_planted (planted.plant.ensures _ (plantable pre.1)))
+complete_rows-requires : tie.Need-complete_rows-requires
+complete_rows-requires c κs =
+    let pre = c.requires in
+    (pre.0, _, all_planted (c.plant-states.ensures _ (plantable pre.1)))
 
-longest-chain-requires : tie.Need-longest-chain-requires
-longest-chain-requires c κs =
-    let completed = c.before.before.before in
-    let planted = completed.before.before.before.before.before in
-    let pre = planted.before.before.before.before.before.before.requires in
-    let π = planted.plant.ensures _ (plantable pre.1) in
-    (pre.0, _, (completed.complete-rows.ensures _ _ (all_planted π)).whole, π.growing.count)
+longest_chain-longest-requires : tie.Need-longest_chain-longest-requires
+longest_chain-longest-requires c κs =
+    let pre = c.requires in
+    let π = c.plant-states.ensures _ (plantable pre.1) in
+    (pre.0, _, (c.complete_rows.ensures _ _ (all_planted π)).whole, π.growing.count)
 
-same_length : tie.Need-same-length
-same_length c = search rules
+shape_of-table : tie.Need-shape_of-table
+shape_of-table c = search rules
 
 returns : tie.Need-returns
 returns c X β =
-    let completed = c.before.before.before.before in
-    let planted = completed.before.before.before.before.before in
-    let π = planted.plant.ensures X (plantable β) in
-    let κ = completed.complete-rows.ensures X _ (all_planted π) in
-    finished π planted.plant.auto.1.1.1.0 completed.complete-rows.auto.0 κ (c.longest-chain.ensures X _ κ.whole π.growing.count)
+    let π = c.plant-states.ensures X (plantable β) in
+    let κ = c.complete_rows.ensures X _ (all_planted π) in
+    finished π c.plant-states.auto.table c.complete_rows.auto.table κ (c.longest_chain-longest.ensures X _ κ.whole π.growing.count)
 
-pub build-wide-spec : {M : Type 1} → statement M
-build-wide-spec =
+pub build_wide_spec : {M : Type 1} → statement M
+build_wide_spec =
     tie.close
     (tie.spec
-    plant-requires
-    complete-rows-requires
-    longest-chain-requires
-    same_length
+    plant-states-requires
+    complete_rows-requires
+    longest_chain-longest-requires
+    shape_of-table
     returns)

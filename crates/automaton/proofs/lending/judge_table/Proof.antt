@@ -5,63 +5,53 @@ use borrow.Author.Rules.{rules}
 use Rattle.automaton.proofs.lending.judge_table.Statement.{statement}
 use Rattle.automaton.proofs.lending.judge_table.Tie as tie
 
-slice-aggregate-build : tie.Need-slice-aggregate-build
-slice-aggregate-build c = search rules
+slice_bounds-build-end : tie.Need-slice_bounds-build-end
+slice_bounds-build-end c = search rules
 
-build-requires : tie.Need-build-requires
-build-requires c κs = let s = c.before.before.before.before in (s.requires.0, roomy s.args.form s.requires.1)
+build-built-requires : tie.Need-build-built-requires
+build-built-requires c κs = (c.requires.0, roomy c.args.form c.requires.1)
 
-row-width-requires : tie.Need-row-width-requires
-row-width-requires c κs = search rules
+row_width-requires : tie.Need-row_width-requires
+row_width-requires c κs = search rules
 
-mul-end : tie.Need-overflow-mul-end
-mul-end c =
-    let made = c.before.before.before in
-    let s = made.before.before.before.before.before in
-    let α = s.requires.1 in
-    omega (arith, end_is (made.build.ensures _ (roomy s.args.form α)) c.before.row-width.ensures, form_small s.args.form α.allowed)
+overflow_mul-end : tie.Need-overflow_mul-end
+overflow_mul-end c =
+    let α = c.requires.1 in
+    omega (arith, end_is (c.build-built.ensures _ (roomy c.args.form α)) c.row_width.ensures, form_small c.args.form α.allowed)
+
+returns-then-lent-end : tie.Need-returns-then-lent-end
+returns-then-lent-end c X α =
+    let β = c.build-built.ensures X (roomy c.args.form α) in
+    judged_short β (end_is β c.row_width.ensures) c.args.lent.now c.if-lent-end.true
+
+slice_bounds-same_numbers-end : tie.Need-slice_bounds-same_numbers-end
+slice_bounds-same_numbers-end c = search rules
+
+same_numbers-requires : tie.Need-same_numbers-requires
+same_numbers-requires c κs =
+    let β = c.build-built.ensures _ (roomy c.args.form c.requires.1) in
+    (c.if-lent-end.false, made_room β (end_is β c.row_width.ensures))
+
+returns-then-same_numbers : tie.Need-returns-then-same_numbers
+returns-then-same_numbers c X α =
+    let β = c.build-built.ensures X (roomy c.args.form α) in
+    judged_right β (end_is β c.row_width.ensures) c.args.lent.now c.if-lent-end.false c.same_numbers.ensures c.if-same_numbers.true
 
 returns : tie.Need-returns
 returns c X α =
-    let made = c.before.before.before.before in
-    let s = made.before.before.before.before.before in
-    let β = made.build.ensures X (roomy s.args.form α) in
-    judged_short β (end_is β c.before.before.row-width.ensures) s.args.lent.now c.if1.true
+    let β = c.build-built.ensures X (roomy c.args.form α) in
+    judged_other β (end_is β c.row_width.ensures) c.args.lent.now c.if-lent-end.false c.same_numbers.ensures c.if-same_numbers.false
 
-slice-aggregate-same-numbers : tie.Need-slice-aggregate-same-numbers
-slice-aggregate-same-numbers c = search rules
-
-same-numbers-requires : tie.Need-same-numbers-requires
-same-numbers-requires c κs =
-    let made = c.before.before.before.before.before in
-    let s = made.before.before.before.before.before in
-    let β = made.build.ensures _ (roomy s.args.form s.requires.1) in
-    (c.before.if1.false, made_room β (end_is β c.before.before.before.row-width.ensures))
-
-returns_2 : tie.Need-returns-2
-returns_2 c X α =
-    let made = c.before.before.before.before.before.before.before in
-    let s = made.before.before.before.before.before in
-    let β = made.build.ensures X (roomy s.args.form α) in
-    judged_right β (end_is β c.before.before.before.before.before.row-width.ensures) s.args.lent.now c.before.before.before.if1.false c.before.same_numbers.ensures c.if2.true
-
-returns-3 : tie.Need-returns-3
-returns-3 c X α =
-    let made = c.before.before.before.before.before.before.before in
-    let s = made.before.before.before.before.before in
-    let β = made.build.ensures X (roomy s.args.form α) in
-    judged_other β (end_is β c.before.before.before.before.before.row-width.ensures) s.args.lent.now c.before.before.before.if1.false c.before.same_numbers.ensures c.if2.false
-
-pub judge-table-spec : {M : Type 1} → statement M
-judge-table-spec =
+pub judge_table_spec : {M : Type 1} → statement M
+judge_table_spec =
     tie.close
     (tie.spec
-    slice-aggregate-build
-    build-requires
-    row-width-requires
-    mul-end
-    returns
-    slice-aggregate-same-numbers
-    same-numbers-requires
-    returns_2
-    returns-3)
+    slice_bounds-build-end
+    build-built-requires
+    row_width-requires
+    overflow_mul-end
+    returns-then-lent-end
+    slice_bounds-same_numbers-end
+    same_numbers-requires
+    returns-then-same_numbers
+    returns)

@@ -5,31 +5,28 @@ use Rattle.automaton.proofs.Lent.{roomy_lent, wrote_in_place}
 use Rattle.automaton.proofs.lending.write_table.Statement.{statement}
 use Rattle.automaton.proofs.lending.write_table.Tie as tie
 
-write-copy-requires : tie.Need-write-copy-requires
-write-copy-requires c κs = search rules
+write_copy-requires : tie.Need-write_copy-requires
+write_copy-requires c κs = search rules
 
-same_length : tie.Need-same-length
-same_length c = search rules
+shape_of-lent-then-lent-lt-MOST_NUMBERS : tie.Need-shape_of-lent-then-lent-lt-MOST_NUMBERS
+shape_of-lent-then-lent-lt-MOST_NUMBERS c = search rules
+
+returns-then-lent-lt-MOST_NUMBERS : tie.Need-returns-then-lent-lt-MOST_NUMBERS
+returns-then-lent-lt-MOST_NUMBERS c = search rules
+
+build-built-requires : tie.Need-build-built-requires
+build-built-requires c κs =
+    (c.requires.0, roomy_lent c.args.form c.requires.1 (omega (arith, c.if-lent-lt-MOST_NUMBERS.false)))
+
+shape_of-lent : tie.Need-shape_of-lent
+shape_of-lent c = search rules
 
 returns : tie.Need-returns
-returns c = search rules
+returns c X α =
+    let room = c.if-lent-lt-MOST_NUMBERS.false in
+    wrote_in_place α.allowed (omega (arith, room)) (c.build-built.ensures X (roomy_lent c.args.form α (omega (arith, room))))
 
-build-requires : tie.Need-build-requires
-build-requires c κs =
-    let s = c.before.before.before.before.before in
-    (s.requires.0, roomy_lent s.args.form s.requires.1 (omega (arith, c.before.if1.false)))
-
-same-length-2 : tie.Need-same-length-2
-same-length-2 c = search rules
-
-returns_2 : tie.Need-returns-2
-returns_2 c X α =
-    let made = c.before.before in
-    let s = made.before.before.before.before.before.before in
-    let room = made.before.before.if1.false in
-    wrote_in_place α.allowed (omega (arith, room)) (made.build.ensures X (roomy_lent s.args.form α (omega (arith, room))))
-
-pub write-table-spec : {M : Type 1} → statement M
-write-table-spec =
+pub write_table_spec : {M : Type 1} → statement M
+write_table_spec =
     tie.close
-    (tie.spec write-copy-requires same_length returns build-requires same-length-2 returns_2)
+    (tie.spec write_copy-requires shape_of-lent-then-lent-lt-MOST_NUMBERS returns-then-lent-lt-MOST_NUMBERS build-built-requires shape_of-lent returns)

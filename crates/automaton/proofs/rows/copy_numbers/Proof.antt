@@ -9,58 +9,58 @@ use Rattle.tree.proofs.Copied.{CopiedTo, copied_on, copied_length}
 use Rattle.automaton.proofs.rows.copy_numbers.Statement.{statement}
 use Rattle.automaton.proofs.rows.copy_numbers.Tie as tie
 
-abbrev invariant_loop : tie.invariant_loop
-invariant_loop lent₀ table end i₀ lent i = (i ≤ end) × CopiedTo lent₀ table i lent
+abbrev invariant-loop-i : tie.invariant-loop-i
+invariant-loop-i lent₀ table end i₀ lent i = (i ≤ end) × CopiedTo lent₀ table i lent
 
-abbrev decreases_loop : tie.decreases_loop
-decreases_loop lent₀ table end i₀ lent i = end - i
+abbrev decreases-loop-i : tie.decreases-loop-i
+decreases-loop-i lent₀ table end i₀ lent i = end - i
 
-loop_holds : tie.Need-loop-init invariant_loop decreases_loop
-loop_holds c = (omega arith, record { is = refl })
+loop-i-init : tie.Need-loop-i-init invariant-loop-i decreases-loop-i
+loop-i-init c = (omega arith, record { is = refl })
 
-mul-lent : tie.Need-overflow-mul-lent invariant_loop decreases_loop
-mul-lent c = search rules
+offset_bounds-table-i : tie.Need-offset_bounds-table-i invariant-loop-i decreases-loop-i
+offset_bounds-table-i c = search rules
 
-shared-slice-read-lent : tie.Need-shared-slice-read-lent invariant_loop decreases_loop
-shared-slice-read-lent c = search rules
+bounds-table-i : tie.Need-bounds-table-i invariant-loop-i decreases-loop-i
+bounds-table-i c = search rules
 
-mul-lent-2 : tie.Need-overflow-mul-lent-2 invariant_loop decreases_loop
-mul-lent-2 c = search rules
+offset_bounds-lent-i : tie.Need-offset_bounds-lent-i invariant-loop-i decreases-loop-i
+offset_bounds-lent-i c = search rules
 
-slice-write-lent : tie.Need-slice-write-lent invariant_loop decreases_loop
-slice-write-lent c = omega (arith, copied_length c.before.before.loop.invariant.1 (omega arith))
+bounds-lent-i : tie.Need-bounds-lent-i invariant-loop-i decreases-loop-i
+bounds-lent-i c = omega (arith, copied_length c.loop-i.invariant.1 (omega arith))
 
-add-i : tie.Need-overflow-add-i invariant_loop decreases_loop
-add-i c = search rules
+overflow_add-i : tie.Need-overflow_add-i invariant-loop-i decreases-loop-i
+overflow_add-i c = search rules
 
-loop_less : tie.Need-loop-smaller invariant_loop decreases_loop
-loop_less c = search rules
+loop-i-smaller : tie.Need-loop-i-smaller invariant-loop-i decreases-loop-i
+loop-i-smaller c = search rules
 
-loop_again : tie.Need-loop-preserved invariant_loop decreases_loop
-loop_again c = (omega arith, copied_on c.before.before.loop.invariant.1 (omega arith) (omega arith))
+loop-i-preserved : tie.Need-loop-i-preserved invariant-loop-i decreases-loop-i
+loop-i-preserved c = (omega arith, copied_on c.loop-i.invariant.1 (omega arith) (omega arith))
 
-same_length : tie.Need-same-length invariant_loop decreases_loop
-same_length c = copied_length c.before.loop.invariant.1 (omega arith)
+shape_of-lent : tie.Need-shape_of-lent invariant-loop-i decreases-loop-i
+shape_of-lent c = copied_length c.loop-i.invariant.1 (omega arith)
 
-returns : tie.Need-returns invariant_loop decreases_loop
+returns : tie.Need-returns invariant-loop-i decreases-loop-i
 returns c =
-    let φ = c.before.loop.invariant in
-    let e : c.before.loop.i ≡ c.before.before.args.end = omega arith in
-    φ.1.is ∙ ap (λ (i : ℕ). over (take i c.before.before.args.table.now) c.before.before.args.lent.now) e
+    let φ = c.loop-i.invariant in
+    let e : c.loop-i.i ≡ c.args.end = omega arith in
+    φ.1.is ∙ ap (λ (i : ℕ). over (take i c.args.table.now) c.args.lent.now) e
 
-pub copy-numbers-spec : {M : Type 1} → statement M
-copy-numbers-spec =
+pub copy_numbers_spec : {M : Type 1} → statement M
+copy_numbers_spec =
     tie.close
     (tie.spec
-    invariant_loop
-    decreases_loop
-    loop_holds
-    mul-lent
-    shared-slice-read-lent
-    mul-lent-2
-    slice-write-lent
-    add-i
-    loop_less
-    loop_again
-    same_length
+    invariant-loop-i
+    decreases-loop-i
+    loop-i-init
+    offset_bounds-table-i
+    bounds-table-i
+    offset_bounds-lent-i
+    bounds-lent-i
+    overflow_add-i
+    loop-i-smaller
+    loop-i-preserved
+    shape_of-lent
     returns)

@@ -10,59 +10,58 @@ use Rattle.tree.proofs.Copied.{same_on}
 use Rattle.automaton.proofs.rows.same_numbers.Statement.{statement}
 use Rattle.automaton.proofs.rows.same_numbers.Tie as tie
 
-abbrev invariant_loop : tie.invariant_loop
-invariant_loop lent table end alike₀ i₀ alike i = (i ≤ end) × (alike ≡ same (take i lent) (take i table))
+abbrev invariant-loop-i : tie.invariant-loop-i
+invariant-loop-i lent table end alike₀ i₀ alike i = (i ≤ end) × (alike ≡ same (take i lent) (take i table))
 
-abbrev decreases_loop : tie.decreases_loop
-decreases_loop lent table end alike₀ i₀ alike i = end - i
+abbrev decreases-loop-i : tie.decreases-loop-i
+decreases-loop-i lent table end alike₀ i₀ alike i = end - i
 
-loop_holds : tie.Need-loop-init invariant_loop decreases_loop
-loop_holds c = (omega arith, refl)
+loop-i-init : tie.Need-loop-i-init invariant-loop-i decreases-loop-i
+loop-i-init c = (omega arith, refl)
 
-mul-alike : tie.Need-overflow-mul-alike invariant_loop decreases_loop
-mul-alike c = search rules
+offset_bounds-lent-i : tie.Need-offset_bounds-lent-i invariant-loop-i decreases-loop-i
+offset_bounds-lent-i c = search rules
 
-shared-slice-read-alike : tie.Need-shared-slice-read-alike invariant_loop decreases_loop
-shared-slice-read-alike c = search rules
+bounds-lent-i : tie.Need-bounds-lent-i invariant-loop-i decreases-loop-i
+bounds-lent-i c = search rules
 
-mul-alike-2 : tie.Need-overflow-mul-alike-2 invariant_loop decreases_loop
-mul-alike-2 c = search rules
+offset_bounds-table-i : tie.Need-offset_bounds-table-i invariant-loop-i decreases-loop-i
+offset_bounds-table-i c = search rules
 
-shared-slice-read-alike-2 : tie.Need-shared-slice-read-alike-2 invariant_loop decreases_loop
-shared-slice-read-alike-2 c = search rules
+bounds-table-i : tie.Need-bounds-table-i invariant-loop-i decreases-loop-i
+bounds-table-i c = search rules
 
-add-i : tie.Need-overflow-add-i invariant_loop decreases_loop
-add-i c = search rules
+overflow_add-i : tie.Need-overflow_add-i invariant-loop-i decreases-loop-i
+overflow_add-i c = search rules
 
-loop_less : tie.Need-loop-smaller invariant_loop decreases_loop
-loop_less c = search rules
+loop-i-smaller : tie.Need-loop-i-smaller invariant-loop-i decreases-loop-i
+loop-i-smaller c = search rules
 
-loop_again : tie.Need-loop-preserved invariant_loop decreases_loop
-loop_again c =
-    let l = c.before.before.before in
-    let a = l.before.args in (
+loop-i-preserved : tie.Need-loop-i-preserved invariant-loop-i decreases-loop-i
+loop-i-preserved c =
+    let a = c.args in (
       omega arith,
-      rw (add-one l.loop.i, l.loop.invariant.1)
-          (same_on a.lent.now a.table.now l.loop.i (omega arith) (omega arith)),
+      rw (add-one c.loop-i.i, c.loop-i.invariant.1)
+          (same_on a.lent.now a.table.now c.loop-i.i (omega arith) (omega arith)),
     )
 
-returns : tie.Need-returns invariant_loop decreases_loop
+returns : tie.Need-returns invariant-loop-i decreases-loop-i
 returns c =
-    let e : c.before.loop.i ≡ c.before.before.args.end = omega arith in
-    rw (← e) c.before.loop.invariant.1
+    let e : c.loop-i.i ≡ c.args.end = omega arith in
+    rw (← e) c.loop-i.invariant.1
 
-pub same-numbers-spec : {M : Type 1} → statement M
-same-numbers-spec =
+pub same_numbers_spec : {M : Type 1} → statement M
+same_numbers_spec =
     tie.close
     (tie.spec
-    invariant_loop
-    decreases_loop
-    loop_holds
-    mul-alike
-    shared-slice-read-alike
-    mul-alike-2
-    shared-slice-read-alike-2
-    add-i
-    loop_less
-    loop_again
+    invariant-loop-i
+    decreases-loop-i
+    loop-i-init
+    offset_bounds-lent-i
+    bounds-lent-i
+    offset_bounds-table-i
+    bounds-table-i
+    overflow_add-i
+    loop-i-smaller
+    loop-i-preserved
     returns)

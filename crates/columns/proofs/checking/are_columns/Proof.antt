@@ -13,100 +13,95 @@ use Rattle.columns.proofs.Agreeing.{columns_true, Agree, first_differs, agree_fi
 use Rattle.columns.proofs.checking.are_columns.Statement.{statement}
 use Rattle.columns.proofs.checking.are_columns.Tie as tie
 
-abbrev invariant_loop : tie.invariant_loop
-invariant_loop map table text states counts index s₀ i₀ s i =
+abbrev invariant-loop-i : tie.invariant-loop-i
+invariant-loop-i map table text states counts index s₀ i₀ s i =
     (X : Words) → Room X (mapped map text) table states counts → Agree X (mapped map text) states counts s i
 
-abbrev decreases_loop : tie.decreases_loop
-decreases_loop map table text states counts index s₀ i₀ s i = length text - i
-
-abbrev start : tie.After-child-index invariant_loop decreases_loop → tie.Start invariant_loop decreases_loop
-start c = c.before.before.before.before.before.before.before.before
+abbrev decreases-loop-i : tie.decreases-loop-i
+decreases-loop-i map table text states counts index s₀ i₀ s i = length text - i
 
 -- what the contract asks of the arguments
-abbrev Asked : tie.Start invariant_loop decreases_loop → Words → Type 0
+abbrev Asked : tie.Start invariant-loop-i decreases-loop-i → Words → Type 0
 Asked a X =
     Room X (mapped a.args.map.now a.args.text.now) a.args.table.now a.args.states.now a.args.counts.now
 
-holds-at-requires : tie.Need-holds-at-requires invariant_loop decreases_loop
-holds-at-requires c κs = let (X, ρ) = c.before.before.before.before.before.requires in (omega (arith, ρ.states), omega (arith, ρ.counts))
+holds_at-requires : tie.Need-holds_at-requires invariant-loop-i decreases-loop-i
+holds_at-requires c κs = let (X, ρ) = c.requires in (omega (arith, ρ.states), omega (arith, ρ.counts))
 
-returns : tie.Need-returns invariant_loop decreases_loop
-returns c X ρ = first_differs ρ c.before.holds_at.ensures (not-true _ c.if1.true)
+returns-then-not-holds_at : tie.Need-returns-then-not-holds_at invariant-loop-i decreases-loop-i
+returns-then-not-holds_at c X ρ = first_differs ρ c.holds_at.ensures (not-true _ c.if-not-holds_at.true-raw)
 
-child-index-requires : tie.Need-child-index-requires invariant_loop decreases_loop
-child-index-requires c κs =
-    let (X, ρ) = c.before.before.before.before.before.before.before.requires in
+child_index-index-requires : tie.Need-child_index-index-requires invariant-loop-i decreases-loop-i
+child_index-index-requires c κs =
+    let (X, ρ) = c.requires in
     (X, _, (table_whole ρ.table).tree)
 
-loop_holds : tie.Need-loop-init invariant_loop decreases_loop
-loop_holds c X ρ = agree_first ρ c.before.before.holds_at.ensures (not-false _ c.before.if1.false)
+loop-i-init : tie.Need-loop-i-init invariant-loop-i decreases-loop-i
+loop-i-init c X ρ = agree_first ρ c.holds_at.ensures (not-false _ c.if-not-holds_at.false-raw)
 
 -- a turn: a letter stands at place i, ..
-place : (c : tie.In-loop invariant_loop decreases_loop)
-    → let a = (start c.before.before).args in c.before.loop.i < length (mapped a.map.now a.text.now)
+place : (c : tie.In-loop-i invariant-loop-i decreases-loop-i)
+    → let a = c.args in c.loop-i.i < length (mapped a.map.now a.text.now)
 place c =
-    let a = (start c.before.before).args in
-    omega (arith, c.loop-test.true, mapped_size a.map.now a.text.now)
+    let a = c.args in
+    omega (arith, c.loop-i-test.true, mapped_size a.map.now a.text.now)
 
 -- .. so that the entry after it can be computed
-reached : (c : tie.In-loop invariant_loop decreases_loop) (X : Words) → Asked (start c.before.before) X
-    → let a = (start c.before.before).args in
-    Reached X (mapped a.map.now a.text.now) a.table.now c.before.before.child-index.result a.counts.now
-    c.before.loop.s c.before.loop.i
+reached : (c : tie.In-loop-i invariant-loop-i decreases-loop-i) (X : Words) → Asked c.before.before.before.before.before.before.before.before.before.before X
+    → let a = c.args in
+    Reached X (mapped a.map.now a.text.now) a.table.now c.child_index-index.result a.counts.now
+    c.loop-i.s c.loop-i.i
 reached c X ρ =
-    let indexed = c.before.before.child-index.ensures X _ (table_whole ρ.table).tree in
-    agree_reached ρ (c.before.loop.invariant X ρ) indexed (place c)
+    let indexed = c.child_index-index.ensures X _ (table_whole ρ.table).tree in
+    agree_reached ρ (c.loop-i.invariant X ρ) indexed (place c)
 
-entry-after-requires : tie.Need-entry-after-requires invariant_loop decreases_loop
-entry-after-requires c κs = let (X, ρ) = (start c.before.before.before).pre in (X, reached c.before X ρ)
+entry_after-entry-requires : tie.Need-entry_after-entry-requires invariant-loop-i decreases-loop-i
+entry_after-entry-requires c κs = let (X, ρ) = c.requires in (X, reached c.before X ρ)
 
-add-i : tie.Need-overflow-add-i invariant_loop decreases_loop
-add-i c = record { fits = omega (arith, c.before.before.loop-test.true, (start c.before.before.before.before).good) }
+overflow_add-i : tie.Need-overflow_add-i invariant-loop-i decreases-loop-i
+overflow_add-i c = record { fits = omega (arith, c.loop-i-test.true, c.good) }
 
-holds-at-requires-2 : tie.Need-holds-at-requires-2 invariant_loop decreases_loop
-holds-at-requires-2 c κs =
-    let (X, ρ) = (start c.before.before.before.before).pre in
+holds_at-requires-in-loop-i : tie.Need-holds_at-requires-in-loop-i invariant-loop-i decreases-loop-i
+holds_at-requires-in-loop-i c κs =
+    let (X, ρ) = c.requires in
     let l = place c.before.before in
     (omega (arith, ρ.states), omega (arith, ρ.counts))
 
-returns_2 : tie.Need-returns-2 invariant_loop decreases_loop
-returns_2 c X ρ =
-    let turn = c.before.before.before.before in
-    next_differs ρ (turn.before.loop.invariant X ρ) (place turn)
-    (c.before.before.entry-after.ensures X (reached turn X ρ))
-    c.before.holds-at2.ensures (not-true _ c.if2.true)
+returns-then-not-holds_at-2 : tie.Need-returns-then-not-holds_at-2 invariant-loop-i decreases-loop-i
+returns-then-not-holds_at-2 c X ρ =
+    next_differs ρ (c.loop-i.invariant X ρ) (place c.before.before.before.before)
+    (c.entry_after-entry.ensures X (reached c.before.before.before.before X ρ))
+    c.holds_at-in-loop-i.ensures (not-true _ c.if-not-holds_at-2.true-raw)
 
-loop_less : tie.Need-loop-smaller invariant_loop decreases_loop
-loop_less c = omega (arith, c.before.before.before.before.loop-test.true)
+loop-i-smaller : tie.Need-loop-i-smaller invariant-loop-i decreases-loop-i
+loop-i-smaller c = omega (arith, c.loop-i-test.true)
 
-loop_again : tie.Need-loop-preserved invariant_loop decreases_loop
-loop_again c X ρ =
-    let turn = c.before.before.before.before in
-    agree_on ρ (turn.before.loop.invariant X ρ) (place turn)
-    (c.before.before.entry-after.ensures X (reached turn X ρ))
-    c.before.holds-at2.ensures (not-false _ c.if2.false)
+loop-i-preserved : tie.Need-loop-i-preserved invariant-loop-i decreases-loop-i
+loop-i-preserved c X ρ =
+    agree_on ρ (c.loop-i.invariant X ρ) (place c.before.before.before.before)
+    (c.entry_after-entry.ensures X (reached c.before.before.before.before X ρ))
+    c.holds_at-in-loop-i.ensures (not-false _ c.if-not-holds_at-2.false-raw)
 
-returns-3 : tie.Need-returns-3 invariant_loop decreases_loop
-returns-3 c X ρ =
-    let a = (start c.before.before).args in
-    columns_true X _ _ _ (agree_all ρ (c.before.loop.invariant X ρ)
-    (omega (arith, c.loop-test.false, mapped_size a.map.now a.text.now)))
+returns : tie.Need-returns invariant-loop-i decreases-loop-i
+returns c X ρ =
+    let a = c.args in
+    columns_true X _ _ _ (agree_all ρ (c.loop-i.invariant X ρ)
+    (omega (arith, c.loop-i-test.false, mapped_size a.map.now a.text.now)))
 
-pub are-columns-spec : {M : Type 1} → statement M
-are-columns-spec =
+pub are_columns_spec : {M : Type 1} → statement M
+are_columns_spec =
     tie.close
     (tie.spec
-    invariant_loop
-    decreases_loop
-    holds-at-requires
-    returns
-    child-index-requires
-    loop_holds
-    entry-after-requires
-    add-i
-    holds-at-requires-2
-    returns_2
-    loop_less
-    loop_again
-    returns-3)
+    invariant-loop-i
+    decreases-loop-i
+    holds_at-requires
+    returns-then-not-holds_at
+    child_index-index-requires
+    loop-i-init
+    entry_after-entry-requires
+    overflow_add-i
+    holds_at-requires-in-loop-i
+    returns-then-not-holds_at-2
+    loop-i-smaller
+    loop-i-preserved
+    returns)

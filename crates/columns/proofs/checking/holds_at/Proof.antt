@@ -5,35 +5,35 @@ use borrow.Author.Tests.{eq-eqb, ne_eqb}
 use Rattle.columns.proofs.checking.holds_at.Statement.{statement}
 use Rattle.columns.proofs.checking.holds_at.Tie as tie
 
-mul_wide : tie.Need-overflow-mul-wide
-mul_wide c = search rules
+offset_bounds-states-i : tie.Need-offset_bounds-states-i
+offset_bounds-states-i c = search rules
 
-shared-slice-read-wide : tie.Need-shared-slice-read-wide
-shared-slice-read-wide c = search rules
+bounds-states-i : tie.Need-bounds-states-i
+bounds-states-i c = search rules
 
 wide-requires : tie.Need-wide-requires
 wide-requires c κs = search rules
 
+returns-then-wide-s : tie.Need-returns-then-wide-s
+returns-then-wide-s c = rw (ne_eqb _ _ (λ e. c.if-wide-s.true (c.wide.ensures.0 ∙ e)))
+
+offset_bounds-counts-i : tie.Need-offset_bounds-counts-i
+offset_bounds-counts-i c = search rules
+
+bounds-counts-i : tie.Need-bounds-counts-i
+bounds-counts-i c = search rules
+
 returns : tie.Need-returns
-returns c = rw (ne_eqb _ _ (λ e. c.if1.true (c.before.wide.ensures.0 ∙ e)))
+returns c = rw (eq-eqb _ _ (sym c.wide.ensures.0 ∙ c.if-wide-s.false))
 
-mul-result : tie.Need-overflow-mul-result
-mul-result c = search rules
-
-shared-slice-read-result : tie.Need-shared-slice-read-result
-shared-slice-read-result c = search rules
-
-returns_2 : tie.Need-returns-2
-returns_2 c = rw (eq-eqb _ _ (sym c.before.before.wide.ensures.0 ∙ c.before.if1.false))
-
-pub holds-at-spec : {M : Type 1} → statement M
-holds-at-spec =
+pub holds_at_spec : {M : Type 1} → statement M
+holds_at_spec =
     tie.close
     (tie.spec
-    mul_wide
-    shared-slice-read-wide
+    offset_bounds-states-i
+    bounds-states-i
     wide-requires
-    returns
-    mul-result
-    shared-slice-read-result
-    returns_2)
+    returns-then-wide-s
+    offset_bounds-counts-i
+    bounds-counts-i
+    returns)

@@ -4,31 +4,29 @@ use Rattle.columns.proofs.Entry.{mapped_size, reached_bordered, reached_ending, 
 use Rattle.columns.proofs.entries.entry_after.Statement.{statement}
 use Rattle.columns.proofs.entries.entry_after.Tie as tie
 
-letter-at-requires : tie.Need-letter-at-requires
-letter-at-requires c κs =
-    let start = c.before.before.before.before in
-    omega (arith, start.requires.1.place, mapped_size start.args.map.now start.args.text.now)
+letter_at-requires : tie.Need-letter_at-requires
+letter_at-requires c κs =
+    omega (arith, c.requires.1.place, mapped_size c.args.map.now c.args.text.now)
 
-step-requires : tie.Need-step-requires
-step-requires c κs =
-    let (X, ρ) = c.before.before.before.before.before.requires in
+step-state-requires : tie.Need-step-state-requires
+step-state-requires c κs =
+    let (X, ρ) = c.requires in
     ((X, _, reached_bordered ρ), c.letter_at.ensures.byte)
 
-add-tally-at : tie.Need-overflow-add-tally-at
-add-tally-at c =
-    let start = c.before.before.before.before.before.before in
-    record { fits = omega (arith, start.requires.1.place, mapped_size start.args.map.now start.args.text.now, start.well-formed) }
+overflow_add-i : tie.Need-overflow_add-i
+overflow_add-i c =
+    record { fits = omega (arith, c.requires.1.place, mapped_size c.args.map.now c.args.text.now, c.well_formed) }
 
-tally-at-requires : tie.Need-tally-at-requires
-tally-at-requires c κs =
-    let (X, ρ) = c.before.before.before.before.before.before.requires in
-    (X, reached_ending ρ c.before.letter_at.ensures.is (c.step.ensures X _ (reached_bordered ρ)))
+tally_at-tally-requires : tie.Need-tally_at-tally-requires
+tally_at-tally-requires c κs =
+    let (X, ρ) = c.requires in
+    (X, reached_ending ρ c.letter_at.ensures.is (c.step-state.ensures X _ (reached_bordered ρ)))
 
 returns : tie.Need-returns
 returns c X ρ =
-    let letter = c.before.before.letter_at.ensures.is in
-    let step = c.before.step.ensures X _ (reached_bordered ρ) in
-    reached_entry ρ letter step (c.tally-at.ensures X (reached_ending ρ letter step))
+    let letter = c.letter_at.ensures.is in
+    let step = c.step-state.ensures X _ (reached_bordered ρ) in
+    reached_entry ρ letter step (c.tally_at-tally.ensures X (reached_ending ρ letter step))
 
-pub entry-after-spec : {M : Type 1} → statement M
-entry-after-spec = tie.close (tie.spec letter-at-requires step-requires add-tally-at tally-at-requires returns)
+pub entry_after_spec : {M : Type 1} → statement M
+entry_after_spec = tie.close (tie.spec letter_at-requires step-state-requires overflow_add-i tally_at-tally-requires returns)

@@ -5,22 +5,21 @@ use Rattle.letters.proofs.Bytes.{mapped_at}
 use Rattle.columns.proofs.entries.letter_at.Statement.{statement}
 use Rattle.columns.proofs.entries.letter_at.Tie as tie
 
-shared-slice-read-letter : tie.Need-shared-slice-read-letter
-shared-slice-read-letter c = search rules
+bounds-text-i : tie.Need-bounds-text-i
+bounds-text-i c = search rules
 
 letter-requires : tie.Need-letter-requires
 letter-requires c κs = search rules
 
-cast-result : tie.Need-overflow-cast-result
-cast-result c = search rules
+overflow_cast-result : tie.Need-overflow_cast-result
+overflow_cast-result c = search rules
 
 returns : tie.Need-returns
 returns c =
-    let start = c.before.before.before.before in
     record {
-      is = c.letter.ensures ∙ sym (mapped_at start.args.map.now start.args.text.now start.args.i start.requires);
+      is = c.letter.ensures ∙ sym (mapped_at c.args.map.now c.args.text.now c.args.i c.requires);
       byte = search rules;
     }
 
-pub letter-at-spec : {M : Type 1} → statement M
-letter-at-spec = tie.close (tie.spec shared-slice-read-letter letter-requires cast-result returns)
+pub letter_at_spec : {M : Type 1} → statement M
+letter_at_spec = tie.close (tie.spec bounds-text-i letter-requires overflow_cast-result returns)

@@ -7,90 +7,84 @@ use Rattle.columns.proofs.Tallying.{Tallying, own_row, tally_start, tally_end, t
 use Rattle.columns.proofs.entries.tally_at.Statement.{statement}
 use Rattle.columns.proofs.entries.tally_at.Tie as tie
 
-abbrev invariant_loop : tie.invariant_loop
-invariant_loop table counts s i words count₀ left₀ v₀ count left v = (X : Words) → Ending X table counts s i → Tallying X counts s i count left v
+abbrev invariant-loop-left : tie.invariant-loop-left
+invariant-loop-left table counts s i words count₀ left₀ v₀ count left v = (X : Words) → Ending X table counts s i → Tallying X counts s i count left v
 
-abbrev decreases_loop : tie.decreases_loop
-decreases_loop table counts s i words count₀ left₀ v₀ count left v = left
+abbrev decreases-loop-left : tie.decreases-loop-left
+decreases-loop-left table counts s i words count₀ left₀ v₀ count left v = left
 
-chain-length-requires : tie.Need-chain-length-requires invariant_loop decreases_loop
-chain-length-requires c κs = own_row c.before.before.requires.1
+chain_length-words-requires : tie.Need-chain_length-words-requires invariant-loop-left decreases-loop-left
+chain_length-words-requires c κs = own_row c.requires.1
 
-first-word-requires : tie.Need-first-word-requires invariant_loop decreases_loop
-first-word-requires c κs = let (X, ε) = c.before.before.before.requires in (X, _, table_linked ε.table ε.inside)
+first_word-v-requires : tie.Need-first_word-v-requires invariant-loop-left decreases-loop-left
+first_word-v-requires c κs = let (X, ε) = c.requires in (X, _, table_linked ε.table ε.inside)
 
-loop_holds : tie.Need-loop-init invariant_loop decreases_loop
-loop_holds c X ε = tally_start ε c.before.chain_length.ensures.is (c.first_word.ensures X _ (table_linked ε.table ε.inside))
+loop-left-init : tie.Need-loop-left-init invariant-loop-left decreases-loop-left
+loop-left-init c X ε = tally_start ε c.chain_length-words.ensures.is (c.first_word-v.ensures X _ (table_linked ε.table ε.inside))
 
-depth-requires : tie.Need-depth-requires invariant_loop decreases_loop
+depth-requires : tie.Need-depth-requires invariant-loop-left decreases-loop-left
 depth-requires c κs =
-    let (X, ε) = c.before.before.before.before.before.before.requires in
-    tally_row ε (c.before.loop.invariant X ε) c.loop-test.true
+    let (X, ε) = c.requires in
+    tally_row ε (c.loop-left.invariant X ε) c.loop-left-test.true
 
-sub-before : tie.Need-overflow-sub-before invariant_loop decreases_loop
-sub-before c =
-    let turn = c.before in
-    let (X, ε) = turn.before.before.before.before.before.before.requires in
-    (tally_fits ε (turn.before.loop.invariant X ε) turn.loop-test.true c.depth.ensures.is).1
+overflow_sub-before : tie.Need-overflow_sub-before invariant-loop-left decreases-loop-left
+overflow_sub-before c =
+    let (X, ε) = c.requires in
+    (tally_fits ε (c.loop-left.invariant X ε) c.loop-left-test.true c.depth.ensures.is).1
 
-mul-before : tie.Need-overflow-mul-before invariant_loop decreases_loop
-mul-before c =
-    let start = c.before.before.before.before.before.before.before in
-    let (X, ε) = start.requires in
-    record { fits = omega (arith, ε.long, start.well-formed) }
+offset_bounds-counts-i : tie.Need-offset_bounds-counts-i invariant-loop-left decreases-loop-left
+offset_bounds-counts-i c =
+    let (X, ε) = c.requires in
+    record { fits = omega (arith, ε.long, c.well_formed) }
 
-shared-slice-read-before : tie.Need-shared-slice-read-before invariant_loop decreases_loop
-shared-slice-read-before c =
-    let turn = c.before.before in
-    let (X, ε) = turn.before.before.before.before.before.before.requires in
-    omega (arith, tally_fits ε (turn.before.loop.invariant X ε) turn.loop-test.true c.before.depth.ensures.is, ε.long)
+bounds-counts-i : tie.Need-bounds-counts-i invariant-loop-left decreases-loop-left
+bounds-counts-i c =
+    let (X, ε) = c.requires in
+    omega (arith, tally_fits ε (c.loop-left.invariant X ε) c.loop-left-test.true c.depth.ensures.is, ε.long)
 
-add-capped-requires : tie.Need-add-capped-requires invariant_loop decreases_loop
-add-capped-requires c κs = tt
+add_capped-count-requires : tie.Need-add_capped-count-requires invariant-loop-left decreases-loop-left
+add_capped-count-requires c κs = tt
 
-link-requires : tie.Need-link-requires invariant_loop decreases_loop
-link-requires c κs =
-    let turn = c.before.before.before in
-    let (X, ε) = turn.before.before.before.before.before.before.requires in
-    tally_row ε (turn.before.loop.invariant X ε) turn.loop-test.true
+link-v-requires : tie.Need-link-v-requires invariant-loop-left decreases-loop-left
+link-v-requires c κs =
+    let (X, ε) = c.requires in
+    tally_row ε (c.loop-left.invariant X ε) c.loop-left-test.true
 
-sub-left : tie.Need-overflow-sub-left invariant_loop decreases_loop
-sub-left c = omega (arith, c.before.before.before.before.loop-test.true)
+overflow_sub-left : tie.Need-overflow_sub-left invariant-loop-left decreases-loop-left
+overflow_sub-left c = omega (arith, c.loop-left-test.true)
 
-loop_less : tie.Need-loop-smaller invariant_loop decreases_loop
-loop_less c = omega (arith, c.before.before.before.before.loop-test.true)
+loop-left-smaller : tie.Need-loop-left-smaller invariant-loop-left decreases-loop-left
+loop-left-smaller c = omega (arith, c.loop-left-test.true)
 
-loop_again : tie.Need-loop-preserved invariant_loop decreases_loop
-loop_again c X ε =
-    let turn = c.before.before.before.before in
-    tally_on ε (turn.before.loop.invariant X ε) turn.loop-test.true
-    c.before.before.before.depth.ensures.is c.link.ensures.is c.before.add-capped.ensures
+loop-left-preserved : tie.Need-loop-left-preserved invariant-loop-left decreases-loop-left
+loop-left-preserved c X ε =
+    tally_on ε (c.loop-left.invariant X ε) c.loop-left-test.true
+    c.depth.ensures.is c.link-v.ensures.is c.add_capped-count.ensures
 
-cast-t16 : tie.Need-overflow-cast-t16 invariant_loop decreases_loop
-cast-t16 c = omega (arith, c.before.before.before.chain_length.ensures.small)
+overflow_cast-result : tie.Need-overflow_cast-result invariant-loop-left decreases-loop-left
+overflow_cast-result c = omega (arith, c.chain_length-words.ensures.small)
 
-returns : tie.Need-returns invariant_loop decreases_loop
+returns : tie.Need-returns invariant-loop-left decreases-loop-left
 returns c X ε =
-    let head = c.before in
-    tally_end ε (head.loop.invariant X ε) c.loop-test.false head.before.before.chain_length.ensures.is
+    tally_end ε (c.loop-left.invariant X ε) c.loop-left-test.false c.chain_length-words.ensures.is
 
-pub tally-at-spec : {M : Type 1} → statement M
-tally-at-spec =
+pub tally_at_spec : {M : Type 1} → statement M
+tally_at_spec =
     tie.close
     (tie.spec
-    invariant_loop
-    decreases_loop
-    chain-length-requires
-    first-word-requires
-    loop_holds
+    invariant-loop-left
+    decreases-loop-left
+    chain_length-words-requires
+    first_word-v-requires
+    loop-left-init
     depth-requires
-    sub-before
-    mul-before
-    shared-slice-read-before
-    add-capped-requires
-    link-requires
-    sub-left
-    loop_less
-    loop_again
-    cast-t16
+    overflow_sub-before
+    offset_bounds-counts-i
+    bounds-counts-i
+    add_capped-count-requires
+    link-v-requires
+    overflow_sub-left
+    loop-left-smaller
+    loop-left-preserved
+    overflow_cast-result
     returns)

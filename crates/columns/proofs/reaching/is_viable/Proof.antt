@@ -9,74 +9,68 @@ use Rattle.columns.proofs.Reach.{climb_first, climb_row, climb_fits, climb_insid
 use Rattle.columns.proofs.reaching.is_viable.Statement.{statement}
 use Rattle.columns.proofs.reaching.is_viable.Tie as tie
 
-abbrev invariant_loop : tie.invariant_loop
-invariant_loop table counts s i v₀ v = (X : Words) (t : Word) → Standing X t table counts s i → Climbed X t i v
+abbrev invariant-loop-s : tie.invariant-loop-s
+invariant-loop-s table counts s i v₀ v = (X : Words) (t : Word) → Standing X t table counts s i → Climbed X t i v
 
-abbrev decreases_loop : tie.decreases_loop
-decreases_loop table counts s i v₀ v = field_at table v depth_field
+abbrev decreases-loop-s : tie.decreases-loop-s
+decreases-loop-s table counts s i v₀ v = field_at table v depth_field
 
-loop_holds : tie.Need-loop-init invariant_loop decreases_loop
-loop_holds c X t σ = climb_first σ
+loop-s-init : tie.Need-loop-s-init invariant-loop-s decreases-loop-s
+loop-s-init c X t σ = climb_first σ
 
-depth-requires : tie.Need-depth-requires invariant_loop decreases_loop
-depth-requires c κs = let (X, t, σ) = c.before.before.before.requires in climb_row σ (c.loop.invariant X t σ)
+depth-requires : tie.Need-depth-requires invariant-loop-s decreases-loop-s
+depth-requires c κs = let (X, t, σ) = c.requires in climb_row σ (c.loop-s.invariant X t σ)
 
-sub-if1 : tie.Need-overflow-sub-if1 invariant_loop decreases_loop
-sub-if1 c =
-    let (X, t, σ) = c.before.before.before.before.requires in
-    climb_fits σ (c.before.loop.invariant X t σ) c.depth.ensures.is
+overflow_sub-i : tie.Need-overflow_sub-i invariant-loop-s decreases-loop-s
+overflow_sub-i c =
+    let (X, t, σ) = c.requires in
+    climb_fits σ (c.loop-s.invariant X t σ) c.depth.ensures.is
 
-mul-if1 : tie.Need-overflow-mul-if1 invariant_loop decreases_loop
-mul-if1 c =
-    let start = c.before.before.before.before in
-    let (X, t, σ) = start.requires in
-    record { fits = omega (arith, climb_inside σ (c.before.loop.invariant X t σ) c.depth.ensures.is, start.well-formed) }
+offset_bounds-counts-i : tie.Need-offset_bounds-counts-i invariant-loop-s decreases-loop-s
+offset_bounds-counts-i c =
+    let (X, t, σ) = c.requires in
+    record { fits = omega (arith, climb_inside σ (c.loop-s.invariant X t σ) c.depth.ensures.is, c.well_formed) }
 
-shared-slice-read-if1 : tie.Need-shared-slice-read-if1 invariant_loop decreases_loop
-shared-slice-read-if1 c =
-    let (X, t, σ) = c.before.before.before.before.before.requires in
-    climb_inside σ (c.before.before.loop.invariant X t σ) c.before.depth.ensures.is
+bounds-counts-i : tie.Need-bounds-counts-i invariant-loop-s decreases-loop-s
+bounds-counts-i c =
+    let (X, t, σ) = c.requires in
+    climb_inside σ (c.loop-s.invariant X t σ) c.depth.ensures.is
 
-returns : tie.Need-returns invariant_loop decreases_loop
+returns-then-v-eq0 : tie.Need-returns-then-v-eq0 invariant-loop-s decreases-loop-s
+returns-then-v-eq0 c X t σ =
+    climb_none σ (c.loop-s.invariant X t σ) c.depth.ensures.is c.loop-s-test.true c.if-v-eq0.true
+
+border-v-requires : tie.Need-border-v-requires invariant-loop-s decreases-loop-s
+border-v-requires c κs =
+    let (X, t, σ) = c.requires in
+    climb_row σ (c.loop-s.invariant X t σ)
+
+loop-s-smaller : tie.Need-loop-s-smaller invariant-loop-s decreases-loop-s
+loop-s-smaller c =
+    let (X, t, σ) = c.requires in
+    climb_less σ (c.loop-s.invariant X t σ) c.depth.ensures.is c.loop-s-test.true c.if-v-eq0.false c.border-v.ensures.is
+
+loop-s-preserved : tie.Need-loop-s-preserved invariant-loop-s decreases-loop-s
+loop-s-preserved c X t σ =
+    climb_on σ (c.loop-s.invariant X t σ) c.depth.ensures.is c.loop-s-test.true c.if-v-eq0.false c.border-v.ensures.is
+
+returns : tie.Need-returns invariant-loop-s decreases-loop-s
 returns c X t σ =
-    let read = c.before.before.before in
-    climb_none σ (read.before.loop.invariant X t σ) read.depth.ensures.is c.before.if1.true c.if2.true
+    climb_viable σ (c.loop-s.invariant X t σ) c.depth.ensures.is c.loop-s-test.false
 
-border-requires : tie.Need-border-requires invariant_loop decreases_loop
-border-requires c κs =
-    let turn = c.before.before.before.before in
-    let (X, t, σ) = turn.before.before.before.requires in
-    climb_row σ (turn.loop.invariant X t σ)
-
-loop_less : tie.Need-loop-smaller invariant_loop decreases_loop
-loop_less c =
-    let read = c.before.before.before.before in
-    let (X, t, σ) = read.before.before.before.before.requires in
-    climb_less σ (read.before.loop.invariant X t σ) read.depth.ensures.is c.before.before.if1.true c.before.if2.false c.border.ensures.is
-
-loop_again : tie.Need-loop-preserved invariant_loop decreases_loop
-loop_again c X t σ =
-    let read = c.before.before.before.before in
-    climb_on σ (read.before.loop.invariant X t σ) read.depth.ensures.is c.before.before.if1.true c.before.if2.false c.border.ensures.is
-
-returns_2 : tie.Need-returns-2 invariant_loop decreases_loop
-returns_2 c X t σ =
-    let read = c.before.before in
-    climb_viable σ (read.before.loop.invariant X t σ) read.depth.ensures.is c.if1.false
-
-pub is-viable-spec : {M : Type 1} → statement M
-is-viable-spec =
+pub is_viable_spec : {M : Type 1} → statement M
+is_viable_spec =
     tie.close
     (tie.spec
-    invariant_loop
-    decreases_loop
-    loop_holds
+    invariant-loop-s
+    decreases-loop-s
+    loop-s-init
     depth-requires
-    sub-if1
-    mul-if1
-    shared-slice-read-if1
-    returns
-    border-requires
-    loop_less
-    loop_again
-    returns_2)
+    overflow_sub-i
+    offset_bounds-counts-i
+    bounds-counts-i
+    returns-then-v-eq0
+    border-v-requires
+    loop-s-smaller
+    loop-s-preserved
+    returns)

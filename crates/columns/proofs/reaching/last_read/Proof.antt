@@ -4,47 +4,46 @@ use Rattle.columns.proofs.Reach.{Unread, unread_first, unread_inside, unread_las
 use Rattle.columns.proofs.reaching.last_read.Statement.{statement}
 use Rattle.columns.proofs.reaching.last_read.Tie as tie
 
-abbrev invariant_loop : tie.invariant_loop
-invariant_loop counts n i₀ i = Unread counts n i
+abbrev invariant-loop-i : tie.invariant-loop-i
+invariant-loop-i counts n i₀ i = Unread counts n i
 
-abbrev decreases_loop : tie.decreases_loop
-decreases_loop counts n i₀ i = i
+abbrev decreases-loop-i : tie.decreases-loop-i
+decreases-loop-i counts n i₀ i = i
 
-loop_holds : tie.Need-loop-init invariant_loop decreases_loop
-loop_holds c = unread_first _ _
+loop-i-init : tie.Need-loop-i-init invariant-loop-i decreases-loop-i
+loop-i-init c = unread_first _ _
 
-mul-if1 : tie.Need-overflow-mul-if1 invariant_loop decreases_loop
-mul-if1 c =
-    let start = c.before in
-    record { fits = omega (arith, unread_inside start.requires c.loop.invariant, start.well-formed) }
+offset_bounds-counts-i : tie.Need-offset_bounds-counts-i invariant-loop-i decreases-loop-i
+offset_bounds-counts-i c =
+    record { fits = omega (arith, unread_inside c.requires c.loop-i.invariant, c.well_formed) }
 
-shared-slice-read-if1 : tie.Need-shared-slice-read-if1 invariant_loop decreases_loop
-shared-slice-read-if1 c = unread_inside c.before.before.requires c.before.loop.invariant
+bounds-counts-i : tie.Need-bounds-counts-i invariant-loop-i decreases-loop-i
+bounds-counts-i c = unread_inside c.requires c.loop-i.invariant
 
-sub-i : tie.Need-overflow-sub-i invariant_loop decreases_loop
-sub-i c =
-    unread_positive c.before.before.before.requires c.before.before.loop.invariant c.if1.true
+overflow_sub-i : tie.Need-overflow_sub-i invariant-loop-i decreases-loop-i
+overflow_sub-i c =
+    unread_positive c.requires c.loop-i.invariant c.loop-i-test.true
 
-loop_less : tie.Need-loop-smaller invariant_loop decreases_loop
-loop_less c =
-    omega (arith, unread_positive c.before.before.before.requires c.before.before.loop.invariant c.if1.true)
+loop-i-smaller : tie.Need-loop-i-smaller invariant-loop-i decreases-loop-i
+loop-i-smaller c =
+    omega (arith, unread_positive c.requires c.loop-i.invariant c.loop-i-test.true)
 
-loop_again : tie.Need-loop-preserved invariant_loop decreases_loop
-loop_again c = unread_on c.before.before.before.requires c.before.before.loop.invariant c.if1.true
+loop-i-preserved : tie.Need-loop-i-preserved invariant-loop-i decreases-loop-i
+loop-i-preserved c = unread_on c.requires c.loop-i.invariant c.loop-i-test.true
 
-returns : tie.Need-returns invariant_loop decreases_loop
-returns c = unread_last c.before.before.before.requires c.before.before.loop.invariant c.if1.false
+returns : tie.Need-returns invariant-loop-i decreases-loop-i
+returns c = unread_last c.requires c.loop-i.invariant c.loop-i-test.false
 
-pub last-read-spec : {M : Type 1} → statement M
-last-read-spec =
+pub last_read_spec : {M : Type 1} → statement M
+last_read_spec =
     tie.close
     (tie.spec
-    invariant_loop
-    decreases_loop
-    loop_holds
-    mul-if1
-    shared-slice-read-if1
-    sub-i
-    loop_less
-    loop_again
+    invariant-loop-i
+    decreases-loop-i
+    loop-i-init
+    offset_bounds-counts-i
+    bounds-counts-i
+    overflow_sub-i
+    loop-i-smaller
+    loop-i-preserved
     returns)

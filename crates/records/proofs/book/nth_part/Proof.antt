@@ -1,10 +1,9 @@
 -- `records::book::nth_part` meets its contract. The invariant is `Going` at a block not past n.
-use mathlib.Core.Path.{◌≡◌, ap, sym, ◌∙◌}
+use mathlib.Core.Path.{sym, ◌∙◌}
 use Prim.Native.Nat.{◌+◌, ◌-◌, ◌≤◌}
 use native.Mathlib.Omega.{arith}
 use lib.ListN.{length}
 use borrow.Author.Rules.{rules}
-use Rattle.meaning.specs.Words.{word}
 use Rattle.records.proofs.Blocks.{Going, sets_out, next, no_block, no_texts, the_block}
 use Rattle.records.proofs.book.nth_part.Statement.{statement}
 use Rattle.records.proofs.book.nth_part.Tie as tie

@@ -1,6 +1,5 @@
 -- `tree::chains::longest_chain`: at the loop's head the longest chain of all is r or that of a state from s on.
 use mathlib.Core.Path.{◌≡◌, ◌∙◌}
-use mathlib.Core.Logic.{⊎_elim}
 use Prim.Native.Nat.{◌-◌, ◌<◌}
 use native.Mathlib.Omega.{arith}
 use lib.ListN.{length}

@@ -1,6 +1,5 @@
 -- `tree::insertion::reach`: the child is known to the index, or found at the place sought, or added there.
 use mathlib.Core.Path.{◌≡◌, sym, ◌∙◌}
-use mathlib.Core.Logic.{⊎_elim}
 use mathlib.Core.Option.{none}
 use native.Mathlib.Omega.{arith}
 use borrow.Author.Rules.{rules}
