@@ -14,6 +14,7 @@ mod sum;
 
 use calls::mixed_case;
 use family::{damaged, random_map, random_records, random_text, rnd};
+use std::io;
 
 fn next_case(x: &mut usize, h: u64) -> u64 {
     let letters = 2 + rnd(x, 2);
@@ -29,21 +30,18 @@ fn next_case(x: &mut usize, h: u64) -> u64 {
     mixed_case(h, &m, map.len, &d, dictionary.len, &t, text.len)
 }
 
-fn print_line(cases: u64, h: u64) {
-    io::write_all(1, b"cases ");
-    io::print_decimal(1, cases);
-    io::write_all(1, b" ");
-    io::print_decimal(1, h);
-    io::write_all(1, b"\n");
+fn print_line(rt: &impl Print, cases: u64, h: u64) -> io::Result<()> {
+    println!(rt; "cases {cases} {h}")
 }
 
-fn main() {
+fn main(rt: HostRuntime) -> io::Result<()> {
     let mut x = 20260114;
     let mut h = 0;
     for c in 0..4000 {
         h = next_case(&mut x, h);
         if c % 100 == 99 {
-            print_line(c + 1, h);
+            print_line(&rt, c + 1, h)?;
         }
     }
+    Ok(())
 }

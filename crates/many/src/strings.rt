@@ -1,19 +1,19 @@
 // Strings of bytes, and lists of strings that are all parts of one lent array of letters. Every
 // function here is total: what is asked for past an end is 0, and what finds no room is left out.
 
-#[derive(Drop)]
+#[derive(Clone, Copy)]
 pub struct Bytes {
     pub at: [u8; 64],
     pub len: usize,
 }
 
-#[derive(Drop)]
+#[derive(Clone, Copy)]
 pub struct Part {
     pub from: usize,
     pub len: usize,
 }
 
-#[derive(Drop)]
+#[derive(Clone, Copy)]
 pub struct Parts {
     pub list: [Part; 64],
     pub count: usize,

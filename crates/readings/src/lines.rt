@@ -1,45 +1,51 @@
 // The lines that the program prints.
-use libc::STDOUT_FILENO;
+use std::io;
 
 // A space, then the number.
-fn print_field(n: u64) {
-    io::write_all(STDOUT_FILENO, b" ");
-    io::print_decimal(STDOUT_FILENO, n);
+fn print_field(rt: &impl Print, n: u64) -> io::Result<()> {
+    print!(rt; " {n}")
 }
 
-fn end_line() {
-    io::write_all(STDOUT_FILENO, b"\n");
+fn end_line(rt: &impl Print) -> io::Result<()> {
+    print!(rt; "\n")
 }
 
-fn print_verdict(accepted: bool) {
+fn print_verdict(rt: &impl Print, accepted: bool) -> io::Result<()> {
     if accepted {
-        io::write_all(STDOUT_FILENO, b" yes");
+        print!(rt; " yes")
     } else {
-        io::write_all(STDOUT_FILENO, b" no");
+        print!(rt; " no")
     }
 }
 
-pub fn print_block_line(n: u16, accepted: bool, farthest: u16, count: u64, probes: u32) {
-    io::write_all(STDOUT_FILENO, b"block");
-    print_field(n as u64);
-    print_verdict(accepted);
-    print_field(farthest as u64);
-    print_field(count);
-    print_field(probes as u64);
-    end_line();
+pub fn print_block_line(
+    rt: &impl Print,
+    n: u16,
+    accepted: bool,
+    farthest: u16,
+    count: u64,
+    probes: u32,
+) -> io::Result<()> {
+    print!(rt; "block")?;
+    print_field(rt, n as u64)?;
+    print_verdict(rt, accepted)?;
+    print_field(rt, farthest as u64)?;
+    print_field(rt, count)?;
+    print_field(rt, probes as u64)?;
+    end_line(rt)
 }
 
-pub fn print_totals(blocks: u16, words: u16) {
-    io::write_all(STDOUT_FILENO, b"blocks");
-    print_field(blocks as u64);
-    io::write_all(STDOUT_FILENO, b" words");
-    print_field(words as u64);
-    end_line();
+pub fn print_totals(rt: &impl Print, blocks: u16, words: u16) -> io::Result<()> {
+    print!(rt; "blocks")?;
+    print_field(rt, blocks as u64)?;
+    print!(rt; " words")?;
+    print_field(rt, words as u64)?;
+    end_line(rt)
 }
 
-pub fn print_refusal(number: u16, place: u16) {
-    io::write_all(STDOUT_FILENO, b"refused");
-    print_field(number as u64);
-    print_field(place as u64);
-    end_line();
+pub fn print_refusal(rt: &impl Print, number: u16, place: u16) -> io::Result<()> {
+    print!(rt; "refused")?;
+    print_field(rt, number as u64)?;
+    print_field(rt, place as u64)?;
+    end_line(rt)
 }

@@ -44,6 +44,8 @@
 //
 // After each case c with c % 100 = 99 a line is printed: `cases`, c + 1, h, with one space between
 // fields. So there are 40 lines.
+#![tactic(auto)]
+
 mod automaton;
 mod family;
 mod letters;
@@ -57,6 +59,7 @@ use family::{damaged, random_map, random_records, random_text, rnd};
 use letters::mapped;
 use readings::{mixed_listed, mixed_numbered};
 use scan::{counts_of, mixed_counts, mixed_scan, mixed_states};
+use std::io;
 use strings::Parts;
 use sum::mixed;
 
@@ -119,21 +122,18 @@ fn next_case(x: &mut usize, h: u64) -> u64 {
     mixed_case(h, &m, map.len, &d, dictionary.len, &t, text.len)
 }
 
-fn print_line(cases: u64, h: u64) {
-    io::write_all(1, b"cases ");
-    io::print_decimal(1, cases);
-    io::write_all(1, b" ");
-    io::print_decimal(1, h);
-    io::write_all(1, b"\n");
+fn print_line(rt: &impl Print, cases: u64, h: u64) -> io::Result<()> {
+    println!(rt; "cases {cases} {h}")
 }
 
-fn main() {
+fn main(rt: HostRuntime) -> io::Result<()> {
     let mut x = 20260114;
     let mut h = 0;
     for c in 0..4000 {
         h = next_case(&mut x, h);
         if c % 100 == 99 {
-            print_line(c + 1, h);
+            print_line(&rt, c + 1, h)?;
         }
     }
+    Ok(())
 }

@@ -3,7 +3,7 @@ use super::strings::{Part, Parts, byte_at, end_of, ends, how_many_end, longest_b
 use super::sum::{mixed, plus};
 
 // The count at each position.
-#[derive(Drop)]
+#[derive(Clone, Copy)]
 pub struct Counts {
     pub at: [u64; 64],
 }

@@ -5,19 +5,19 @@ use super::sum::plus;
 // No word, no state.
 pub const NONE: usize = 65535;
 
-#[derive(Drop)]
+#[derive(Clone, Copy)]
 pub struct Bytes {
     pub at: [u8; 64],
     pub len: usize,
 }
 
-#[derive(Drop)]
+#[derive(Clone, Copy)]
 pub struct Part {
     pub from: usize,
     pub len: usize,
 }
 
-#[derive(Drop)]
+#[derive(Clone, Copy)]
 pub struct Parts {
     pub list: [Part; 64],
     pub count: usize,

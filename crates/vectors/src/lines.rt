@@ -1,50 +1,52 @@
 // The parts of a line, and whether lent memory is as it was.
+use std::io;
 
 fn wide(n: u16) -> u64 {
     n as u64
 }
 
-pub fn print(bytes: &[u8]) {
-    io::write_all(1, bytes);
+pub fn print(rt: &impl Print, bytes: &[u8]) -> io::Result<()> {
+    rt.write_all(bytes)
 }
 
-pub fn print_count(n: u64) {
-    print(b" ");
-    io::print_decimal(1, n);
+pub fn print_count(rt: &impl Print, n: u64) -> io::Result<()> {
+    print!(rt; " {n}")
 }
 
-pub fn print_number(n: u16) {
-    print_count(wide(n));
+pub fn print_number(rt: &impl Print, n: u16) -> io::Result<()> {
+    print_count(rt, wide(n))
 }
 
 // The first `count` numbers.
-pub fn print_numbers(numbers: &[u16], count: usize) {
+pub fn print_numbers(rt: &impl Print, numbers: &[u16], count: usize) -> io::Result<()> {
     let len = numbers.len();
     for i in 0..len {
         if i < count {
-            print_number(numbers[i]);
+            print_number(rt, numbers[i])?;
         }
     }
+    Ok(())
 }
 
-pub fn print_counts(counts: &[u64]) {
+pub fn print_counts(rt: &impl Print, counts: &[u64]) -> io::Result<()> {
     let len = counts.len();
     for i in 0..len {
-        print_count(counts[i]);
+        print_count(rt, counts[i])?;
     }
+    Ok(())
 }
 
-pub fn print_refusal(number: u16, place: u16) {
-    print(b" refused");
-    print_number(number);
-    print_number(place);
+pub fn print_refusal(rt: &impl Print, number: u16, place: u16) -> io::Result<()> {
+    print(rt, b" refused")?;
+    print_number(rt, number)?;
+    print_number(rt, place)
 }
 
-pub fn print_kept(kept: bool) {
+pub fn print_kept(rt: &impl Print, kept: bool) -> io::Result<()> {
     if kept {
-        print(b" kept\n");
+        print(rt, b" kept\n")
     } else {
-        print(b" changed\n");
+        print(rt, b" changed\n")
     }
 }
 

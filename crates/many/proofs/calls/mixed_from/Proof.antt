@@ -7,95 +7,95 @@ use lib.ListN.{length}
 use Rattle.many.proofs.calls.mixed_from.Statement.{statement}
 use Rattle.many.proofs.calls.mixed_from.Tie as tie
 
-abbrev invariant_loop : tie.invariant_loop
-invariant_loop h map dict table text states counts reading₀ words given₀ sum₀ listed₀ reading given sum listed = length reading ≡ length reading₀
+abbrev invariant-loop-listed : tie.invariant-loop-listed
+invariant-loop-listed h map dict table text states counts reading₀ words given₀ sum₀ listed₀ reading given sum listed = length reading ≡ length reading₀
 
-abbrev decreases_loop : tie.decreases_loop
-decreases_loop h map dict table text states counts reading₀ words given₀ sum₀ listed₀ reading given sum listed = 40 - listed
+abbrev decreases-loop-listed : tie.decreases-loop-listed
+decreases-loop-listed h map dict table text states counts reading₀ words given₀ sum₀ listed₀ reading given sum listed = 40 - listed
 
-mixed-reading-requires : tie.Need-mixed-reading-requires invariant_loop decreases_loop
-mixed-reading-requires c κs = tt
+mixed_reading-sum-requires : tie.Need-mixed_reading-sum-requires invariant-loop-listed decreases-loop-listed
+mixed_reading-sum-requires c κs = tt
 
-loop_holds : tie.Need-loop-init invariant_loop decreases_loop
-loop_holds c = search rules
+loop-listed-init : tie.Need-loop-listed-init invariant-loop-listed decreases-loop-listed
+loop-listed-init c = search rules
 
-size-requires : tie.Need-size-requires invariant_loop decreases_loop
+size-requires : tie.Need-size-requires invariant-loop-listed decreases-loop-listed
 size-requires c κs = tt
 
-next-requires : tie.Need-next-requires invariant_loop decreases_loop
+next-requires : tie.Need-next-requires invariant-loop-listed decreases-loop-listed
 next-requires c κs = tt
 
-enum_told : tie.Need-enum-told invariant_loop decreases_loop
-enum_told c = search rules
+enum_told-1 : tie.Need-enum_told-1 invariant-loop-listed decreases-loop-listed
+enum_told-1 c = search rules
 
-mixed-requires : tie.Need-mixed-requires invariant_loop decreases_loop
+mixed-requires : tie.Need-mixed-requires invariant-loop-listed decreases-loop-listed
 mixed-requires c κs = tt
 
-same_length : tie.Need-same-length invariant_loop decreases_loop
-same_length c = search rules
+shape_of-reading-in-End : tie.Need-shape_of-reading-in-End invariant-loop-listed decreases-loop-listed
+shape_of-reading-in-End c = search rules
 
-returns : tie.Need-returns invariant_loop decreases_loop
-returns c = tt
+returns-in-End : tie.Need-returns-in-End invariant-loop-listed decreases-loop-listed
+returns-in-End c = tt
 
-enum-known-number : tie.Need-enum-known-number invariant_loop decreases_loop
-enum-known-number c = search rules
+enum_known-number : tie.Need-enum_known-number invariant-loop-listed decreases-loop-listed
+enum_known-number c = search rules
 
-mixed-surprise-requires : tie.Need-mixed-surprise-requires invariant_loop decreases_loop
-mixed-surprise-requires c κs = tt
+mixed_surprise-requires : tie.Need-mixed_surprise-requires invariant-loop-listed decreases-loop-listed
+mixed_surprise-requires c κs = tt
 
-same-length-2 : tie.Need-same-length-2 invariant_loop decreases_loop
-same-length-2 c = search rules
+shape_of-reading-in-Refused : tie.Need-shape_of-reading-in-Refused invariant-loop-listed decreases-loop-listed
+shape_of-reading-in-Refused c = search rules
 
-returns_2 : tie.Need-returns-2 invariant_loop decreases_loop
-returns_2 c = tt
+returns-in-Refused : tie.Need-returns-in-Refused invariant-loop-listed decreases-loop-listed
+returns-in-Refused c = tt
 
-enum-known-more : tie.Need-enum-known-more invariant_loop decreases_loop
-enum-known-more c = search rules
+enum_known-more : tie.Need-enum_known-more invariant-loop-listed decreases-loop-listed
+enum_known-more c = search rules
 
-mixed-reading-requires-2 : tie.Need-mixed-reading-requires-2 invariant_loop decreases_loop
-mixed-reading-requires-2 c κs = tt
+mixed_reading-sum-requires-in-Words : tie.Need-mixed_reading-sum-requires-in-Words invariant-loop-listed decreases-loop-listed
+mixed_reading-sum-requires-in-Words c κs = tt
 
-add-listed : tie.Need-overflow-add-listed invariant_loop decreases_loop
-add-listed c = omega arith
+overflow_add-listed : tie.Need-overflow_add-listed invariant-loop-listed decreases-loop-listed
+overflow_add-listed c = omega arith
 
-loop_less : tie.Need-loop-smaller invariant_loop decreases_loop
-loop_less c = omega arith
+loop-listed-smaller : tie.Need-loop-listed-smaller invariant-loop-listed decreases-loop-listed
+loop-listed-smaller c = omega arith
 
-loop_again : tie.Need-loop-preserved invariant_loop decreases_loop
-loop_again c = search rules
+loop-listed-preserved : tie.Need-loop-listed-preserved invariant-loop-listed decreases-loop-listed
+loop-listed-preserved c = search rules
 
-mixed-requires-2 : tie.Need-mixed-requires-2 invariant_loop decreases_loop
+mixed-requires-2 : tie.Need-mixed-requires-2 invariant-loop-listed decreases-loop-listed
 mixed-requires-2 c κs = tt
 
-same-length-3 : tie.Need-same-length-3 invariant_loop decreases_loop
-same-length-3 c = search rules
+shape_of-reading : tie.Need-shape_of-reading invariant-loop-listed decreases-loop-listed
+shape_of-reading c = search rules
 
-returns-3 : tie.Need-returns-3 invariant_loop decreases_loop
-returns-3 c = tt
+returns : tie.Need-returns invariant-loop-listed decreases-loop-listed
+returns c = tt
 
-pub mixed-from-spec : {M : Type 1} → statement M
-mixed-from-spec =
+pub mixed_from_spec : {M : Type 1} → statement M
+mixed_from_spec =
     tie.close
     (tie.spec
-    invariant_loop
-    decreases_loop
-    mixed-reading-requires
-    loop_holds
+    invariant-loop-listed
+    decreases-loop-listed
+    mixed_reading-sum-requires
+    loop-listed-init
     size-requires
     next-requires
-    enum_told
+    enum_told-1
     mixed-requires
-    same_length
-    returns
-    enum-known-number
-    mixed-surprise-requires
-    same-length-2
-    returns_2
-    enum-known-more
-    mixed-reading-requires-2
-    add-listed
-    loop_less
-    loop_again
+    shape_of-reading-in-End
+    returns-in-End
+    enum_known-number
+    mixed_surprise-requires
+    shape_of-reading-in-Refused
+    returns-in-Refused
+    enum_known-more
+    mixed_reading-sum-requires-in-Words
+    overflow_add-listed
+    loop-listed-smaller
+    loop-listed-preserved
     mixed-requires-2
-    same-length-3
-    returns-3)
+    shape_of-reading
+    returns)

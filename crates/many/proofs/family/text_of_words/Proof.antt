@@ -4,59 +4,59 @@ use native.Mathlib.Omega.{arith}
 use Rattle.many.proofs.family.text_of_words.Statement.{statement}
 use Rattle.many.proofs.family.text_of_words.Tie as tie
 
-abbrev invariant_loop : tie.invariant_loop
-invariant_loop x₀ records words count text₀ turns counter₀ x text counter = Unit {0}
+abbrev invariant-loop : tie.invariant-loop
+invariant-loop x₀ records words count text₀ turns counter₀ x text counter = Unit {0}
 
-abbrev decreases_loop : tie.decreases_loop
-decreases_loop x₀ records words count text₀ turns counter₀ x text counter = turns - counter
+abbrev decreases-loop : tie.decreases-loop
+decreases-loop x₀ records words count text₀ turns counter₀ x text counter = turns - counter
 
-no-bytes-requires : tie.Need-no-bytes-requires invariant_loop decreases_loop
-no-bytes-requires c κs = tt
+no_bytes-text-requires : tie.Need-no_bytes-text-requires invariant-loop decreases-loop
+no_bytes-text-requires c κs = tt
 
-rnd-requires : tie.Need-rnd-requires invariant_loop decreases_loop
-rnd-requires c κs = tt
+rnd-turns-requires : tie.Need-rnd-turns-requires invariant-loop decreases-loop
+rnd-turns-requires c κs = tt
 
-add-turns : tie.Need-overflow-add-turns invariant_loop decreases_loop
-add-turns c = omega arith
+overflow_add-turns : tie.Need-overflow_add-turns invariant-loop decreases-loop
+overflow_add-turns c = omega arith
 
-loop_holds : tie.Need-loop-init invariant_loop decreases_loop
-loop_holds c = tt
+loop-init : tie.Need-loop-init invariant-loop decreases-loop
+loop-init c = tt
 
-rnd-requires-2 : tie.Need-rnd-requires-2 invariant_loop decreases_loop
-rnd-requires-2 c κs = tt
+rnd-w-requires : tie.Need-rnd-w-requires invariant-loop decreases-loop
+rnd-w-requires c κs = tt
 
-part-at-requires : tie.Need-part-at-requires invariant_loop decreases_loop
-part-at-requires c κs = tt
+part_at-requires : tie.Need-part_at-requires invariant-loop decreases-loop
+part_at-requires c κs = tt
 
-with-word-requires : tie.Need-with-word-requires invariant_loop decreases_loop
-with-word-requires c κs = tt
+with_word-text-requires : tie.Need-with_word-text-requires invariant-loop decreases-loop
+with_word-text-requires c κs = tt
 
-add-counter : tie.Need-overflow-add-counter invariant_loop decreases_loop
-add-counter c = omega arith
+overflow_step : tie.Need-overflow_step invariant-loop decreases-loop
+overflow_step c = omega arith
 
-loop_less : tie.Need-loop-smaller invariant_loop decreases_loop
-loop_less c = omega arith
+loop-smaller : tie.Need-loop-smaller invariant-loop decreases-loop
+loop-smaller c = omega arith
 
-loop_again : tie.Need-loop-preserved invariant_loop decreases_loop
-loop_again c = tt
+loop-preserved : tie.Need-loop-preserved invariant-loop decreases-loop
+loop-preserved c = tt
 
-returns : tie.Need-returns invariant_loop decreases_loop
+returns : tie.Need-returns invariant-loop decreases-loop
 returns c = tt
 
-pub text-of-words-spec : {M : Type 1} → statement M
-text-of-words-spec =
+pub text_of_words_spec : {M : Type 1} → statement M
+text_of_words_spec =
     tie.close
     (tie.spec
-    invariant_loop
-    decreases_loop
-    no-bytes-requires
-    rnd-requires
-    add-turns
-    loop_holds
-    rnd-requires-2
-    part-at-requires
-    with-word-requires
-    add-counter
-    loop_less
-    loop_again
+    invariant-loop
+    decreases-loop
+    no_bytes-text-requires
+    rnd-turns-requires
+    overflow_add-turns
+    loop-init
+    rnd-w-requires
+    part_at-requires
+    with_word-text-requires
+    overflow_step
+    loop-smaller
+    loop-preserved
     returns)

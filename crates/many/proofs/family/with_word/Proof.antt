@@ -4,51 +4,51 @@ use native.Mathlib.Omega.{arith}
 use Rattle.many.proofs.family.with_word.Statement.{statement}
 use Rattle.many.proofs.family.with_word.Tie as tie
 
-abbrev invariant_loop : tie.invariant_loop
-invariant_loop records len from longer₀ k₀ longer k = Unit {0}
+abbrev invariant-loop-k : tie.invariant-loop-k
+invariant-loop-k records len from longer₀ k₀ longer k = Unit {0}
 
-abbrev decreases_loop : tie.decreases_loop
-decreases_loop records len from longer₀ k₀ longer k = len - k
+abbrev decreases-loop-k : tie.decreases-loop-k
+decreases-loop-k records len from longer₀ k₀ longer k = len - k
 
-returns : tie.Need-returns invariant_loop decreases_loop
+returns-then-text-gt16 : tie.Need-returns-then-text-gt16 invariant-loop-k decreases-loop-k
+returns-then-text-gt16 c = tt
+
+returns-then-text-len : tie.Need-returns-then-text-len invariant-loop-k decreases-loop-k
+returns-then-text-len c = tt
+
+loop-k-init : tie.Need-loop-k-init invariant-loop-k decreases-loop-k
+loop-k-init c = tt
+
+byte_at-requires : tie.Need-byte_at-requires invariant-loop-k decreases-loop-k
+byte_at-requires c κs = tt
+
+with_byte-longer-requires : tie.Need-with_byte-longer-requires invariant-loop-k decreases-loop-k
+with_byte-longer-requires c κs = tt
+
+overflow_step-k : tie.Need-overflow_step-k invariant-loop-k decreases-loop-k
+overflow_step-k c = omega arith
+
+loop-k-smaller : tie.Need-loop-k-smaller invariant-loop-k decreases-loop-k
+loop-k-smaller c = omega arith
+
+loop-k-preserved : tie.Need-loop-k-preserved invariant-loop-k decreases-loop-k
+loop-k-preserved c = tt
+
+returns : tie.Need-returns invariant-loop-k decreases-loop-k
 returns c = tt
 
-returns_2 : tie.Need-returns-2 invariant_loop decreases_loop
-returns_2 c = tt
-
-loop_holds : tie.Need-loop-init invariant_loop decreases_loop
-loop_holds c = tt
-
-byte-at-requires : tie.Need-byte-at-requires invariant_loop decreases_loop
-byte-at-requires c κs = tt
-
-with_byte_requires : tie.Need-with-byte-requires invariant_loop decreases_loop
-with_byte_requires c κs = tt
-
-add-k : tie.Need-overflow-add-k invariant_loop decreases_loop
-add-k c = omega arith
-
-loop_less : tie.Need-loop-smaller invariant_loop decreases_loop
-loop_less c = omega arith
-
-loop_again : tie.Need-loop-preserved invariant_loop decreases_loop
-loop_again c = tt
-
-returns-3 : tie.Need-returns-3 invariant_loop decreases_loop
-returns-3 c = tt
-
-pub with-word-spec : {M : Type 1} → statement M
-with-word-spec =
+pub with_word_spec : {M : Type 1} → statement M
+with_word_spec =
     tie.close
     (tie.spec
-    invariant_loop
-    decreases_loop
-    returns
-    returns_2
-    loop_holds
-    byte-at-requires
-    with_byte_requires
-    add-k
-    loop_less
-    loop_again
-    returns-3)
+    invariant-loop-k
+    decreases-loop-k
+    returns-then-text-gt16
+    returns-then-text-len
+    loop-k-init
+    byte_at-requires
+    with_byte-longer-requires
+    overflow_step-k
+    loop-k-smaller
+    loop-k-preserved
+    returns)

@@ -5,51 +5,51 @@ use borrow.Author.Rules.{rules}
 use Rattle.many.proofs.mixing.mixed_counts.Statement.{statement}
 use Rattle.many.proofs.mixing.mixed_counts.Tie as tie
 
-abbrev invariant_loop : tie.invariant_loop
-invariant_loop h counts count end sum₀ i₀ sum i = Unit {0}
+abbrev invariant-loop-i : tie.invariant-loop-i
+invariant-loop-i h counts count end sum₀ i₀ sum i = Unit {0}
 
-abbrev decreases_loop : tie.decreases_loop
-decreases_loop h counts count end sum₀ i₀ sum i = end - i
+abbrev decreases-loop-i : tie.decreases-loop-i
+decreases-loop-i h counts count end sum₀ i₀ sum i = end - i
 
-at-most-requires : tie.Need-at-most-requires invariant_loop decreases_loop
-at-most-requires c κs = tt
+at_most-end-requires : tie.Need-at_most-end-requires invariant-loop-i decreases-loop-i
+at_most-end-requires c κs = tt
 
-loop_holds : tie.Need-loop-init invariant_loop decreases_loop
-loop_holds c = tt
+loop-i-init : tie.Need-loop-i-init invariant-loop-i decreases-loop-i
+loop-i-init c = tt
 
-mul-mixed : tie.Need-overflow-mul-mixed invariant_loop decreases_loop
-mul-mixed c = search rules
+offset_bounds-counts-i : tie.Need-offset_bounds-counts-i invariant-loop-i decreases-loop-i
+offset_bounds-counts-i c = search rules
 
-shared-slice-read-mixed : tie.Need-shared-slice-read-mixed invariant_loop decreases_loop
-shared-slice-read-mixed c = search rules
+bounds-counts-i : tie.Need-bounds-counts-i invariant-loop-i decreases-loop-i
+bounds-counts-i c = search rules
 
-mixed-requires : tie.Need-mixed-requires invariant_loop decreases_loop
-mixed-requires c κs = tt
+mixed-sum-requires : tie.Need-mixed-sum-requires invariant-loop-i decreases-loop-i
+mixed-sum-requires c κs = tt
 
-add-i : tie.Need-overflow-add-i invariant_loop decreases_loop
-add-i c = omega arith
+overflow_step-i : tie.Need-overflow_step-i invariant-loop-i decreases-loop-i
+overflow_step-i c = omega arith
 
-loop_less : tie.Need-loop-smaller invariant_loop decreases_loop
-loop_less c = omega arith
+loop-i-smaller : tie.Need-loop-i-smaller invariant-loop-i decreases-loop-i
+loop-i-smaller c = omega arith
 
-loop_again : tie.Need-loop-preserved invariant_loop decreases_loop
-loop_again c = tt
+loop-i-preserved : tie.Need-loop-i-preserved invariant-loop-i decreases-loop-i
+loop-i-preserved c = tt
 
-returns : tie.Need-returns invariant_loop decreases_loop
+returns : tie.Need-returns invariant-loop-i decreases-loop-i
 returns c = tt
 
-pub mixed-counts-spec : {M : Type 1} → statement M
-mixed-counts-spec =
+pub mixed_counts_spec : {M : Type 1} → statement M
+mixed_counts_spec =
     tie.close
     (tie.spec
-    invariant_loop
-    decreases_loop
-    at-most-requires
-    loop_holds
-    mul-mixed
-    shared-slice-read-mixed
-    mixed-requires
-    add-i
-    loop_less
-    loop_again
+    invariant-loop-i
+    decreases-loop-i
+    at_most-end-requires
+    loop-i-init
+    offset_bounds-counts-i
+    bounds-counts-i
+    mixed-sum-requires
+    overflow_step-i
+    loop-i-smaller
+    loop-i-preserved
     returns)

@@ -5,55 +5,55 @@ use borrow.Author.Rules.{rules}
 use Rattle.many.proofs.mixing.mixed_numbers.Statement.{statement}
 use Rattle.many.proofs.mixing.mixed_numbers.Tie as tie
 
-abbrev invariant_loop : tie.invariant_loop
-invariant_loop h numbers count end sum₀ i₀ sum i = Unit {0}
+abbrev invariant-loop-i : tie.invariant-loop-i
+invariant-loop-i h numbers count end sum₀ i₀ sum i = Unit {0}
 
-abbrev decreases_loop : tie.decreases_loop
-decreases_loop h numbers count end sum₀ i₀ sum i = end - i
+abbrev decreases-loop-i : tie.decreases-loop-i
+decreases-loop-i h numbers count end sum₀ i₀ sum i = end - i
 
-at-most-requires : tie.Need-at-most-requires invariant_loop decreases_loop
-at-most-requires c κs = tt
+at_most-end-requires : tie.Need-at_most-end-requires invariant-loop-i decreases-loop-i
+at_most-end-requires c κs = tt
 
-loop_holds : tie.Need-loop-init invariant_loop decreases_loop
-loop_holds c = tt
+loop-i-init : tie.Need-loop-i-init invariant-loop-i decreases-loop-i
+loop-i-init c = tt
 
-mul_wide : tie.Need-overflow-mul-wide invariant_loop decreases_loop
-mul_wide c = search rules
+offset_bounds-numbers-i : tie.Need-offset_bounds-numbers-i invariant-loop-i decreases-loop-i
+offset_bounds-numbers-i c = search rules
 
-shared-slice-read-wide : tie.Need-shared-slice-read-wide invariant_loop decreases_loop
-shared-slice-read-wide c = search rules
+bounds-numbers-i : tie.Need-bounds-numbers-i invariant-loop-i decreases-loop-i
+bounds-numbers-i c = search rules
 
-wide-requires : tie.Need-wide-requires invariant_loop decreases_loop
+wide-requires : tie.Need-wide-requires invariant-loop-i decreases-loop-i
 wide-requires c κs = tt
 
-mixed-requires : tie.Need-mixed-requires invariant_loop decreases_loop
-mixed-requires c κs = tt
+mixed-sum-requires : tie.Need-mixed-sum-requires invariant-loop-i decreases-loop-i
+mixed-sum-requires c κs = tt
 
-add-i : tie.Need-overflow-add-i invariant_loop decreases_loop
-add-i c = omega arith
+overflow_step-i : tie.Need-overflow_step-i invariant-loop-i decreases-loop-i
+overflow_step-i c = omega arith
 
-loop_less : tie.Need-loop-smaller invariant_loop decreases_loop
-loop_less c = omega arith
+loop-i-smaller : tie.Need-loop-i-smaller invariant-loop-i decreases-loop-i
+loop-i-smaller c = omega arith
 
-loop_again : tie.Need-loop-preserved invariant_loop decreases_loop
-loop_again c = tt
+loop-i-preserved : tie.Need-loop-i-preserved invariant-loop-i decreases-loop-i
+loop-i-preserved c = tt
 
-returns : tie.Need-returns invariant_loop decreases_loop
+returns : tie.Need-returns invariant-loop-i decreases-loop-i
 returns c = tt
 
-pub mixed-numbers-spec : {M : Type 1} → statement M
-mixed-numbers-spec =
+pub mixed_numbers_spec : {M : Type 1} → statement M
+mixed_numbers_spec =
     tie.close
     (tie.spec
-    invariant_loop
-    decreases_loop
-    at-most-requires
-    loop_holds
-    mul_wide
-    shared-slice-read-wide
+    invariant-loop-i
+    decreases-loop-i
+    at_most-end-requires
+    loop-i-init
+    offset_bounds-numbers-i
+    bounds-numbers-i
     wide-requires
-    mixed-requires
-    add-i
-    loop_less
-    loop_again
+    mixed-sum-requires
+    overflow_step-i
+    loop-i-smaller
+    loop-i-preserved
     returns)

@@ -7,51 +7,51 @@ use lib.ListN.{length}
 use Rattle.many.proofs.numbers.with_readings.Statement.{statement}
 use Rattle.many.proofs.numbers.with_readings.Tie as tie
 
-abbrev invariant_loop : tie.invariant_loop
-invariant_loop h map dict table text states counts reading₀ count so-far₀ n₀ reading so_far n = length reading ≡ length reading₀
+abbrev invariant-loop-n : tie.invariant-loop-n
+invariant-loop-n h map dict table text states counts reading₀ count so-far₀ n₀ reading so_far n = length reading ≡ length reading₀
 
-abbrev decreases_loop : tie.decreases_loop
-decreases_loop h map dict table text states counts reading₀ count so-far₀ n₀ reading so_far n = count - n
+abbrev decreases-loop-n : tie.decreases-loop-n
+decreases-loop-n h map dict table text states counts reading₀ count so-far₀ n₀ reading so_far n = count - n
 
-loop_holds : tie.Need-loop-init invariant_loop decreases_loop
-loop_holds c = search rules
+loop-n-init : tie.Need-loop-n-init invariant-loop-n decreases-loop-n
+loop-n-init c = search rules
 
-same_length : tie.Need-same-length invariant_loop decreases_loop
-same_length c = search rules
+shape_of-reading-then-so_far : tie.Need-shape_of-reading-then-so_far invariant-loop-n decreases-loop-n
+shape_of-reading-then-so_far c = search rules
 
-returns : tie.Need-returns invariant_loop decreases_loop
+returns-then-so_far : tie.Need-returns-then-so_far invariant-loop-n decreases-loop-n
+returns-then-so_far c = tt
+
+with_reading-so_far-requires : tie.Need-with_reading-so_far-requires invariant-loop-n decreases-loop-n
+with_reading-so_far-requires c κs = tt
+
+overflow_step-n : tie.Need-overflow_step-n invariant-loop-n decreases-loop-n
+overflow_step-n c = omega arith
+
+loop-n-smaller : tie.Need-loop-n-smaller invariant-loop-n decreases-loop-n
+loop-n-smaller c = omega arith
+
+loop-n-preserved : tie.Need-loop-n-preserved invariant-loop-n decreases-loop-n
+loop-n-preserved c = search rules
+
+shape_of-reading : tie.Need-shape_of-reading invariant-loop-n decreases-loop-n
+shape_of-reading c = search rules
+
+returns : tie.Need-returns invariant-loop-n decreases-loop-n
 returns c = tt
 
-with_reading_requires : tie.Need-with-reading-requires invariant_loop decreases_loop
-with_reading_requires c κs = tt
-
-add-n : tie.Need-overflow-add-n invariant_loop decreases_loop
-add-n c = omega arith
-
-loop_less : tie.Need-loop-smaller invariant_loop decreases_loop
-loop_less c = omega arith
-
-loop_again : tie.Need-loop-preserved invariant_loop decreases_loop
-loop_again c = search rules
-
-same-length-2 : tie.Need-same-length-2 invariant_loop decreases_loop
-same-length-2 c = search rules
-
-returns_2 : tie.Need-returns-2 invariant_loop decreases_loop
-returns_2 c = tt
-
-pub with-readings-spec : {M : Type 1} → statement M
-with-readings-spec =
+pub with_readings_spec : {M : Type 1} → statement M
+with_readings_spec =
     tie.close
     (tie.spec
-    invariant_loop
-    decreases_loop
-    loop_holds
-    same_length
-    returns
-    with_reading_requires
-    add-n
-    loop_less
-    loop_again
-    same-length-2
-    returns_2)
+    invariant-loop-n
+    decreases-loop-n
+    loop-n-init
+    shape_of-reading-then-so_far
+    returns-then-so_far
+    with_reading-so_far-requires
+    overflow_step-n
+    loop-n-smaller
+    loop-n-preserved
+    shape_of-reading
+    returns)

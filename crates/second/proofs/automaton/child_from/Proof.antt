@@ -4,47 +4,47 @@ use native.Mathlib.Omega.{arith}
 use Rattle.second.proofs.automaton.child_from.Statement.{statement}
 use Rattle.second.proofs.automaton.child_from.Tie as tie
 
-abbrev invariant_loop : tie.invariant_loop
-invariant_loop letters states parent least count child₀ bound₀ s₀ child bound s = Unit {0}
+abbrev invariant-loop-s : tie.invariant-loop-s
+invariant-loop-s letters states parent least count child₀ bound₀ s₀ child bound s = Unit {0}
 
-abbrev decreases_loop : tie.decreases_loop
-decreases_loop letters states parent least count child₀ bound₀ s₀ child bound s = count - s
+abbrev decreases-loop-s : tie.decreases-loop-s
+decreases-loop-s letters states parent least count child₀ bound₀ s₀ child bound s = count - s
 
-loop_holds : tie.Need-loop-init invariant_loop decreases_loop
-loop_holds c = tt
+loop-s-init : tie.Need-loop-s-init invariant-loop-s decreases-loop-s
+loop-s-init c = tt
 
-part-at-requires : tie.Need-part-at-requires invariant_loop decreases_loop
-part-at-requires c κs = tt
+part_at-p-requires : tie.Need-part_at-p-requires invariant-loop-s decreases-loop-s
+part_at-p-requires c κs = tt
 
-last-letter-requires : tie.Need-last-letter-requires invariant_loop decreases_loop
-last-letter-requires c κs = tt
+last_letter-letter-requires : tie.Need-last_letter-letter-requires invariant-loop-s decreases-loop-s
+last_letter-letter-requires c κs = tt
 
-is-child-requires : tie.Need-is-child-requires invariant_loop decreases_loop
-is-child-requires c κs = tt
+is_child-requires : tie.Need-is_child-requires invariant-loop-s decreases-loop-s
+is_child-requires c κs = tt
 
-add-s : tie.Need-overflow-add-s invariant_loop decreases_loop
-add-s c = omega arith
+overflow_step-s : tie.Need-overflow_step-s invariant-loop-s decreases-loop-s
+overflow_step-s c = omega arith
 
-loop_less : tie.Need-loop-smaller invariant_loop decreases_loop
-loop_less c = omega arith
+loop-s-smaller : tie.Need-loop-s-smaller invariant-loop-s decreases-loop-s
+loop-s-smaller c = omega arith
 
-loop_again : tie.Need-loop-preserved invariant_loop decreases_loop
-loop_again c = tt
+loop-s-preserved : tie.Need-loop-s-preserved invariant-loop-s decreases-loop-s
+loop-s-preserved c = tt
 
-returns : tie.Need-returns invariant_loop decreases_loop
+returns : tie.Need-returns invariant-loop-s decreases-loop-s
 returns c = tt
 
-pub child-from-spec : {M : Type 1} → statement M
-child-from-spec =
+pub child_from_spec : {M : Type 1} → statement M
+child_from_spec =
     tie.close
     (tie.spec
-    invariant_loop
-    decreases_loop
-    loop_holds
-    part-at-requires
-    last-letter-requires
-    is-child-requires
-    add-s
-    loop_less
-    loop_again
+    invariant-loop-s
+    decreases-loop-s
+    loop-s-init
+    part_at-p-requires
+    last_letter-letter-requires
+    is_child-requires
+    overflow_step-s
+    loop-s-smaller
+    loop-s-preserved
     returns)

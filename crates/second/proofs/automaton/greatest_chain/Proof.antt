@@ -4,47 +4,47 @@ use native.Mathlib.Omega.{arith}
 use Rattle.second.proofs.automaton.greatest_chain.Statement.{statement}
 use Rattle.second.proofs.automaton.greatest_chain.Tie as tie
 
-abbrev invariant_loop : tie.invariant_loop
-invariant_loop letters words states count greatest₀ s₀ greatest s = Unit {0}
+abbrev invariant-loop-s : tie.invariant-loop-s
+invariant-loop-s letters words states count greatest₀ s₀ greatest s = Unit {0}
 
-abbrev decreases_loop : tie.decreases_loop
-decreases_loop letters words states count greatest₀ s₀ greatest s = count - s
+abbrev decreases-loop-s : tie.decreases-loop-s
+decreases-loop-s letters words states count greatest₀ s₀ greatest s = count - s
 
-loop_holds : tie.Need-loop-init invariant_loop decreases_loop
-loop_holds c = tt
+loop-s-init : tie.Need-loop-s-init invariant-loop-s decreases-loop-s
+loop-s-init c = tt
 
-part-at-requires : tie.Need-part-at-requires invariant_loop decreases_loop
-part-at-requires c κs = tt
+part_at-p-requires : tie.Need-part_at-p-requires invariant-loop-s decreases-loop-s
+part_at-p-requires c κs = tt
 
-end-of-requires : tie.Need-end-of-requires invariant_loop decreases_loop
-end-of-requires c κs = tt
+end_of-requires : tie.Need-end_of-requires invariant-loop-s decreases-loop-s
+end_of-requires c κs = tt
 
-how-many-end-requires : tie.Need-how-many-end-requires invariant_loop decreases_loop
-how-many-end-requires c κs = tt
+how_many_end-n-requires : tie.Need-how_many_end-n-requires invariant-loop-s decreases-loop-s
+how_many_end-n-requires c κs = tt
 
-add-s : tie.Need-overflow-add-s invariant_loop decreases_loop
-add-s c = omega arith
+overflow_step-s : tie.Need-overflow_step-s invariant-loop-s decreases-loop-s
+overflow_step-s c = omega arith
 
-loop_less : tie.Need-loop-smaller invariant_loop decreases_loop
-loop_less c = omega arith
+loop-s-smaller : tie.Need-loop-s-smaller invariant-loop-s decreases-loop-s
+loop-s-smaller c = omega arith
 
-loop_again : tie.Need-loop-preserved invariant_loop decreases_loop
-loop_again c = tt
+loop-s-preserved : tie.Need-loop-s-preserved invariant-loop-s decreases-loop-s
+loop-s-preserved c = tt
 
-returns : tie.Need-returns invariant_loop decreases_loop
+returns : tie.Need-returns invariant-loop-s decreases-loop-s
 returns c = tt
 
-pub greatest-chain-spec : {M : Type 1} → statement M
-greatest-chain-spec =
+pub greatest_chain_spec : {M : Type 1} → statement M
+greatest_chain_spec =
     tie.close
     (tie.spec
-    invariant_loop
-    decreases_loop
-    loop_holds
-    part-at-requires
-    end-of-requires
-    how-many-end-requires
-    add-s
-    loop_less
-    loop_again
+    invariant-loop-s
+    decreases-loop-s
+    loop-s-init
+    part_at-p-requires
+    end_of-requires
+    how_many_end-n-requires
+    overflow_step-s
+    loop-s-smaller
+    loop-s-preserved
     returns)

@@ -4,31 +4,31 @@ use native.Mathlib.Omega.{arith}
 use Rattle.second.proofs.automaton.mixed_rows.Statement.{statement}
 use Rattle.second.proofs.automaton.mixed_rows.Tie as tie
 
-abbrev invariant_loop : tie.invariant_loop
-invariant_loop h letters words states width count sum₀ s₀ sum s = Unit {0}
+abbrev invariant-loop-s : tie.invariant-loop-s
+invariant-loop-s h letters words states width count sum₀ s₀ sum s = Unit {0}
 
-abbrev decreases_loop : tie.decreases_loop
-decreases_loop h letters words states width count sum₀ s₀ sum s = count - s
+abbrev decreases-loop-s : tie.decreases-loop-s
+decreases-loop-s h letters words states width count sum₀ s₀ sum s = count - s
 
-loop_holds : tie.Need-loop-init invariant_loop decreases_loop
-loop_holds c = tt
+loop-s-init : tie.Need-loop-s-init invariant-loop-s decreases-loop-s
+loop-s-init c = tt
 
-mixed-row-requires : tie.Need-mixed-row-requires invariant_loop decreases_loop
-mixed-row-requires c κs = tt
+mixed_row-sum-requires : tie.Need-mixed_row-sum-requires invariant-loop-s decreases-loop-s
+mixed_row-sum-requires c κs = tt
 
-add-s : tie.Need-overflow-add-s invariant_loop decreases_loop
-add-s c = omega arith
+overflow_step-s : tie.Need-overflow_step-s invariant-loop-s decreases-loop-s
+overflow_step-s c = omega arith
 
-loop_less : tie.Need-loop-smaller invariant_loop decreases_loop
-loop_less c = omega arith
+loop-s-smaller : tie.Need-loop-s-smaller invariant-loop-s decreases-loop-s
+loop-s-smaller c = omega arith
 
-loop_again : tie.Need-loop-preserved invariant_loop decreases_loop
-loop_again c = tt
+loop-s-preserved : tie.Need-loop-s-preserved invariant-loop-s decreases-loop-s
+loop-s-preserved c = tt
 
-returns : tie.Need-returns invariant_loop decreases_loop
+returns : tie.Need-returns invariant-loop-s decreases-loop-s
 returns c = tt
 
-pub mixed-rows-spec : {M : Type 1} → statement M
-mixed-rows-spec =
+pub mixed_rows_spec : {M : Type 1} → statement M
+mixed_rows_spec =
     tie.close
-    (tie.spec invariant_loop decreases_loop loop_holds mixed-row-requires add-s loop_less loop_again returns)
+    (tie.spec invariant-loop-s decreases-loop-s loop-s-init mixed_row-sum-requires overflow_step-s loop-s-smaller loop-s-preserved returns)

@@ -4,71 +4,71 @@ use native.Mathlib.Omega.{arith}
 use Rattle.second.proofs.automaton.parse.Statement.{statement}
 use Rattle.second.proofs.automaton.parse.Tie as tie
 
-abbrev invariant_loop : tie.invariant_loop
-invariant_loop d letters len end words₀ at₀ words at = Unit {0}
+abbrev invariant-loop-at : tie.invariant-loop-at
+invariant-loop-at d letters len end words₀ at₀ words at = Unit {0}
 
-abbrev decreases_loop : tie.decreases_loop
-decreases_loop d letters len end words₀ at₀ words at = end - at
+abbrev decreases-loop-at : tie.decreases-loop-at
+decreases-loop-at d letters len end words₀ at₀ words at = end - at
 
-at-most-64-requires : tie.Need-at-most-64-requires invariant_loop decreases_loop
-at-most-64-requires c κs = tt
+at_most_64-end-requires : tie.Need-at_most_64-end-requires invariant-loop-at decreases-loop-at
+at_most_64-end-requires c κs = tt
 
-no-parts-requires : tie.Need-no-parts-requires invariant_loop decreases_loop
-no-parts-requires c κs = tt
+no_parts-words-requires : tie.Need-no_parts-words-requires invariant-loop-at decreases-loop-at
+no_parts-words-requires c κs = tt
 
-loop_holds : tie.Need-loop-init invariant_loop decreases_loop
-loop_holds c = tt
+loop-at-init : tie.Need-loop-at-init invariant-loop-at decreases-loop-at
+loop-at-init c = tt
 
-refusal-at-requires : tie.Need-refusal-at-requires invariant_loop decreases_loop
-refusal-at-requires c κs = tt
+refusal_at-refusal-requires : tie.Need-refusal_at-refusal-requires invariant-loop-at decreases-loop-at
+refusal_at-refusal-requires c κs = tt
 
-returns : tie.Need-returns invariant_loop decreases_loop
+returns-then-refusal-ne0 : tie.Need-returns-then-refusal-ne0 invariant-loop-at decreases-loop-at
+returns-then-refusal-ne0 c = tt
+
+byte_at-requires : tie.Need-byte_at-requires invariant-loop-at decreases-loop-at
+byte_at-requires c κs = tt
+
+wide-n-requires : tie.Need-wide-n-requires invariant-loop-at decreases-loop-at
+wide-n-requires c κs = tt
+
+overflow_add-part : tie.Need-overflow_add-part invariant-loop-at decreases-loop-at
+overflow_add-part c = omega arith
+
+with_part-words-requires : tie.Need-with_part-words-requires invariant-loop-at decreases-loop-at
+with_part-words-requires c κs = tt
+
+overflow_add-at : tie.Need-overflow_add-at invariant-loop-at decreases-loop-at
+overflow_add-at c = omega arith
+
+overflow_add-at-in-loop-at : tie.Need-overflow_add-at-in-loop-at invariant-loop-at decreases-loop-at
+overflow_add-at-in-loop-at c = omega arith
+
+loop-at-smaller : tie.Need-loop-at-smaller invariant-loop-at decreases-loop-at
+loop-at-smaller c = omega arith
+
+loop-at-preserved : tie.Need-loop-at-preserved invariant-loop-at decreases-loop-at
+loop-at-preserved c = tt
+
+returns : tie.Need-returns invariant-loop-at decreases-loop-at
 returns c = tt
 
-byte-at-requires : tie.Need-byte-at-requires invariant_loop decreases_loop
-byte-at-requires c κs = tt
-
-wide-requires : tie.Need-wide-requires invariant_loop decreases_loop
-wide-requires c κs = tt
-
-add_at : tie.Need-overflow-add-at invariant_loop decreases_loop
-add_at c = omega arith
-
-with-part-requires : tie.Need-with-part-requires invariant_loop decreases_loop
-with-part-requires c κs = tt
-
-add-at-2 : tie.Need-overflow-add-at-2 invariant_loop decreases_loop
-add-at-2 c = omega arith
-
-add-at-3 : tie.Need-overflow-add-at-3 invariant_loop decreases_loop
-add-at-3 c = omega arith
-
-loop_less : tie.Need-loop-smaller invariant_loop decreases_loop
-loop_less c = omega arith
-
-loop_again : tie.Need-loop-preserved invariant_loop decreases_loop
-loop_again c = tt
-
-returns_2 : tie.Need-returns-2 invariant_loop decreases_loop
-returns_2 c = tt
-
-pub parse-spec : {M : Type 1} → statement M
-parse-spec =
+pub parse_spec : {M : Type 1} → statement M
+parse_spec =
     tie.close
     (tie.spec
-    invariant_loop
-    decreases_loop
-    at-most-64-requires
-    no-parts-requires
-    loop_holds
-    refusal-at-requires
-    returns
-    byte-at-requires
-    wide-requires
-    add_at
-    with-part-requires
-    add-at-2
-    add-at-3
-    loop_less
-    loop_again
-    returns_2)
+    invariant-loop-at
+    decreases-loop-at
+    at_most_64-end-requires
+    no_parts-words-requires
+    loop-at-init
+    refusal_at-refusal-requires
+    returns-then-refusal-ne0
+    byte_at-requires
+    wide-n-requires
+    overflow_add-part
+    with_part-words-requires
+    overflow_add-at
+    overflow_add-at-in-loop-at
+    loop-at-smaller
+    loop-at-preserved
+    returns)

@@ -4,51 +4,51 @@ use native.Mathlib.Omega.{arith}
 use Rattle.second.proofs.automaton.states_of.Statement.{statement}
 use Rattle.second.proofs.automaton.states_of.Tie as tie
 
-abbrev invariant_loop : tie.invariant_loop
-invariant_loop letters words count states₀ k₀ states k = Unit {0}
+abbrev invariant-loop-k : tie.invariant-loop-k
+invariant-loop-k letters words count states₀ k₀ states k = Unit {0}
 
-abbrev decreases_loop : tie.decreases_loop
-decreases_loop letters words count states₀ k₀ states k = count - k
+abbrev decreases-loop-k : tie.decreases-loop-k
+decreases-loop-k letters words count states₀ k₀ states k = count - k
 
-no-parts-requires : tie.Need-no-parts-requires invariant_loop decreases_loop
-no-parts-requires c κs = tt
+no_parts-requires : tie.Need-no_parts-requires invariant-loop-k decreases-loop-k
+no_parts-requires c κs = tt
 
-with-part-requires : tie.Need-with-part-requires invariant_loop decreases_loop
-with-part-requires c κs = tt
+with_part-states-requires : tie.Need-with_part-states-requires invariant-loop-k decreases-loop-k
+with_part-states-requires c κs = tt
 
-loop_holds : tie.Need-loop-init invariant_loop decreases_loop
-loop_holds c = tt
+loop-k-init : tie.Need-loop-k-init invariant-loop-k decreases-loop-k
+loop-k-init c = tt
 
-part-at-requires : tie.Need-part-at-requires invariant_loop decreases_loop
-part-at-requires c κs = tt
+part_at-requires : tie.Need-part_at-requires invariant-loop-k decreases-loop-k
+part_at-requires c κs = tt
 
-with-prefixes-requires : tie.Need-with-prefixes-requires invariant_loop decreases_loop
-with-prefixes-requires c κs = tt
+with_prefixes-states-requires : tie.Need-with_prefixes-states-requires invariant-loop-k decreases-loop-k
+with_prefixes-states-requires c κs = tt
 
-add-k : tie.Need-overflow-add-k invariant_loop decreases_loop
-add-k c = omega arith
+overflow_step-k : tie.Need-overflow_step-k invariant-loop-k decreases-loop-k
+overflow_step-k c = omega arith
 
-loop_less : tie.Need-loop-smaller invariant_loop decreases_loop
-loop_less c = omega arith
+loop-k-smaller : tie.Need-loop-k-smaller invariant-loop-k decreases-loop-k
+loop-k-smaller c = omega arith
 
-loop_again : tie.Need-loop-preserved invariant_loop decreases_loop
-loop_again c = tt
+loop-k-preserved : tie.Need-loop-k-preserved invariant-loop-k decreases-loop-k
+loop-k-preserved c = tt
 
-returns : tie.Need-returns invariant_loop decreases_loop
+returns : tie.Need-returns invariant-loop-k decreases-loop-k
 returns c = tt
 
-pub states-of-spec : {M : Type 1} → statement M
-states-of-spec =
+pub states_of_spec : {M : Type 1} → statement M
+states_of_spec =
     tie.close
     (tie.spec
-    invariant_loop
-    decreases_loop
-    no-parts-requires
-    with-part-requires
-    loop_holds
-    part-at-requires
-    with-prefixes-requires
-    add-k
-    loop_less
-    loop_again
+    invariant-loop-k
+    decreases-loop-k
+    no_parts-requires
+    with_part-states-requires
+    loop-k-init
+    part_at-requires
+    with_prefixes-states-requires
+    overflow_step-k
+    loop-k-smaller
+    loop-k-preserved
     returns)

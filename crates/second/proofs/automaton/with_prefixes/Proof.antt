@@ -4,51 +4,51 @@ use native.Mathlib.Omega.{arith}
 use Rattle.second.proofs.automaton.with_prefixes.Statement.{statement}
 use Rattle.second.proofs.automaton.with_prefixes.Tie as tie
 
-abbrev invariant_loop : tie.invariant_loop
-invariant_loop letters from len all₀ k₀ all k = Unit {0}
+abbrev invariant-loop-k : tie.invariant-loop-k
+invariant-loop-k letters from len all₀ k₀ all k = Unit {0}
 
-abbrev decreases_loop : tie.decreases_loop
-decreases_loop letters from len all₀ k₀ all k = len - k
+abbrev decreases-loop-k : tie.decreases-loop-k
+decreases-loop-k letters from len all₀ k₀ all k = len - k
 
-loop_holds : tie.Need-loop-init invariant_loop decreases_loop
-loop_holds c = tt
+loop-k-init : tie.Need-loop-k-init invariant-loop-k decreases-loop-k
+loop-k-init c = tt
 
-add-find : tie.Need-overflow-add-find invariant_loop decreases_loop
-add-find c = omega arith
+overflow_add-k : tie.Need-overflow_add-k invariant-loop-k decreases-loop-k
+overflow_add-k c = omega arith
 
-find_requires : tie.Need-find-requires invariant_loop decreases_loop
-find_requires c κs = tt
+find-requires : tie.Need-find-requires invariant-loop-k decreases-loop-k
+find-requires c κs = tt
 
-add-t11 : tie.Need-overflow-add-t11 invariant_loop decreases_loop
-add-t11 c = omega arith
+overflow_add-k-then-find-eq-NONE : tie.Need-overflow_add-k-then-find-eq-NONE invariant-loop-k decreases-loop-k
+overflow_add-k-then-find-eq-NONE c = omega arith
 
-with-part-requires : tie.Need-with-part-requires invariant_loop decreases_loop
-with-part-requires c κs = tt
+with_part-all-requires : tie.Need-with_part-all-requires invariant-loop-k decreases-loop-k
+with_part-all-requires c κs = tt
 
-add-k : tie.Need-overflow-add-k invariant_loop decreases_loop
-add-k c = omega arith
+overflow_step-k : tie.Need-overflow_step-k invariant-loop-k decreases-loop-k
+overflow_step-k c = omega arith
 
-loop_less : tie.Need-loop-smaller invariant_loop decreases_loop
-loop_less c = omega arith
+loop-k-smaller : tie.Need-loop-k-smaller invariant-loop-k decreases-loop-k
+loop-k-smaller c = omega arith
 
-loop_again : tie.Need-loop-preserved invariant_loop decreases_loop
-loop_again c = tt
+loop-k-preserved : tie.Need-loop-k-preserved invariant-loop-k decreases-loop-k
+loop-k-preserved c = tt
 
-returns : tie.Need-returns invariant_loop decreases_loop
+returns : tie.Need-returns invariant-loop-k decreases-loop-k
 returns c = tt
 
-pub with-prefixes-spec : {M : Type 1} → statement M
-with-prefixes-spec =
+pub with_prefixes_spec : {M : Type 1} → statement M
+with_prefixes_spec =
     tie.close
     (tie.spec
-    invariant_loop
-    decreases_loop
-    loop_holds
-    add-find
-    find_requires
-    add-t11
-    with-part-requires
-    add-k
-    loop_less
-    loop_again
+    invariant-loop-k
+    decreases-loop-k
+    loop-k-init
+    overflow_add-k
+    find-requires
+    overflow_add-k-then-find-eq-NONE
+    with_part-all-requires
+    overflow_step-k
+    loop-k-smaller
+    loop-k-preserved
     returns)

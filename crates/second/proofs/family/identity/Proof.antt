@@ -5,43 +5,43 @@ use borrow.Author.Rules.{rules}
 use Rattle.second.proofs.family.identity.Statement.{statement}
 use Rattle.second.proofs.family.identity.Tie as tie
 
-abbrev invariant_loop : tie.invariant_loop
-invariant_loop at₀ i₀ at i = Unit {0}
+abbrev invariant-loop-i : tie.invariant-loop-i
+invariant-loop-i at₀ i₀ at i = Unit {0}
 
-abbrev decreases_loop : tie.decreases_loop
-decreases_loop at₀ i₀ at i = 256 - i
+abbrev decreases-loop-i : tie.decreases-loop-i
+decreases-loop-i at₀ i₀ at i = 256 - i
 
-loop_holds : tie.Need-loop-init invariant_loop decreases_loop
-loop_holds c = tt
+loop-i-init : tie.Need-loop-i-init invariant-loop-i decreases-loop-i
+loop-i-init c = tt
 
-as-byte-requires : tie.Need-as-byte-requires invariant_loop decreases_loop
-as-byte-requires c κs = tt
+as_byte-requires : tie.Need-as_byte-requires invariant-loop-i decreases-loop-i
+as_byte-requires c κs = tt
 
-array-write-at : tie.Need-array-write-at invariant_loop decreases_loop
-array-write-at c = search rules
+bounds-at-i : tie.Need-bounds-at-i invariant-loop-i decreases-loop-i
+bounds-at-i c = search rules
 
-add-i : tie.Need-overflow-add-i invariant_loop decreases_loop
-add-i c = omega arith
+overflow_step-i : tie.Need-overflow_step-i invariant-loop-i decreases-loop-i
+overflow_step-i c = omega arith
 
-loop_less : tie.Need-loop-smaller invariant_loop decreases_loop
-loop_less c = omega arith
+loop-i-smaller : tie.Need-loop-i-smaller invariant-loop-i decreases-loop-i
+loop-i-smaller c = omega arith
 
-loop_again : tie.Need-loop-preserved invariant_loop decreases_loop
-loop_again c = tt
+loop-i-preserved : tie.Need-loop-i-preserved invariant-loop-i decreases-loop-i
+loop-i-preserved c = tt
 
-returns : tie.Need-returns invariant_loop decreases_loop
+returns : tie.Need-returns invariant-loop-i decreases-loop-i
 returns c = tt
 
-pub identity-spec : {M : Type 1} → statement M
-identity-spec =
+pub identity_spec : {M : Type 1} → statement M
+identity_spec =
     tie.close
     (tie.spec
-    invariant_loop
-    decreases_loop
-    loop_holds
-    as-byte-requires
-    array-write-at
-    add-i
-    loop_less
-    loop_again
+    invariant-loop-i
+    decreases-loop-i
+    loop-i-init
+    as_byte-requires
+    bounds-at-i
+    overflow_step-i
+    loop-i-smaller
+    loop-i-preserved
     returns)

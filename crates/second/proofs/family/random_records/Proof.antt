@@ -4,47 +4,47 @@ use native.Mathlib.Omega.{arith}
 use Rattle.second.proofs.family.random_records.Statement.{statement}
 use Rattle.second.proofs.family.random_records.Tie as tie
 
-abbrev invariant_loop : tie.invariant_loop
-invariant_loop x₀ count letters made₀ counter₀ x made counter = Unit {0}
+abbrev invariant-loop : tie.invariant-loop
+invariant-loop x₀ count letters made₀ counter₀ x made counter = Unit {0}
 
-abbrev decreases_loop : tie.decreases_loop
-decreases_loop x₀ count letters made₀ counter₀ x made counter = count - counter
+abbrev decreases-loop : tie.decreases-loop
+decreases-loop x₀ count letters made₀ counter₀ x made counter = count - counter
 
-no-bytes-requires : tie.Need-no-bytes-requires invariant_loop decreases_loop
-no-bytes-requires c κs = tt
+no_bytes-records-requires : tie.Need-no_bytes-records-requires invariant-loop decreases-loop
+no_bytes-records-requires c κs = tt
 
-no-parts-requires : tie.Need-no-parts-requires invariant_loop decreases_loop
-no-parts-requires c κs = tt
+no_parts-words-requires : tie.Need-no_parts-words-requires invariant-loop decreases-loop
+no_parts-words-requires c κs = tt
 
-loop_holds : tie.Need-loop-init invariant_loop decreases_loop
-loop_holds c = tt
+loop-init : tie.Need-loop-init invariant-loop decreases-loop
+loop-init c = tt
 
-with-record-requires : tie.Need-with-record-requires invariant_loop decreases_loop
-with-record-requires c κs = tt
+with_record-made-requires : tie.Need-with_record-made-requires invariant-loop decreases-loop
+with_record-made-requires c κs = tt
 
-add-counter : tie.Need-overflow-add-counter invariant_loop decreases_loop
-add-counter c = omega arith
+overflow_step : tie.Need-overflow_step invariant-loop decreases-loop
+overflow_step c = omega arith
 
-loop_less : tie.Need-loop-smaller invariant_loop decreases_loop
-loop_less c = omega arith
+loop-smaller : tie.Need-loop-smaller invariant-loop decreases-loop
+loop-smaller c = omega arith
 
-loop_again : tie.Need-loop-preserved invariant_loop decreases_loop
-loop_again c = tt
+loop-preserved : tie.Need-loop-preserved invariant-loop decreases-loop
+loop-preserved c = tt
 
-returns : tie.Need-returns invariant_loop decreases_loop
+returns : tie.Need-returns invariant-loop decreases-loop
 returns c = tt
 
-pub random-records-spec : {M : Type 1} → statement M
-random-records-spec =
+pub random_records_spec : {M : Type 1} → statement M
+random_records_spec =
     tie.close
     (tie.spec
-    invariant_loop
-    decreases_loop
-    no-bytes-requires
-    no-parts-requires
-    loop_holds
-    with-record-requires
-    add-counter
-    loop_less
-    loop_again
+    invariant-loop
+    decreases-loop
+    no_bytes-records-requires
+    no_parts-words-requires
+    loop-init
+    with_record-made-requires
+    overflow_step
+    loop-smaller
+    loop-preserved
     returns)

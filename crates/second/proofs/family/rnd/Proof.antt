@@ -4,20 +4,20 @@ use borrow.Author.Rules.{rules}
 use Rattle.second.proofs.family.rnd.Statement.{statement}
 use Rattle.second.proofs.family.rnd.Tie as tie
 
-mul_next : tie.Need-overflow-mul-next
-mul_next c = search rules
+overflow_mul-next : tie.Need-overflow_mul-next
+overflow_mul-next c = search rules
 
-add-next : tie.Need-overflow-add-next
-add-next c = search rules
+overflow_add-next : tie.Need-overflow_add-next
+overflow_add-next c = search rules
+
+returns-then-n-eq0 : tie.Need-returns-then-n-eq0
+returns-then-n-eq0 c = search rules
+
+nonzero_rem-result : tie.Need-nonzero_rem-result
+nonzero_rem-result c = search rules
 
 returns : tie.Need-returns
-returns c = search rules
+returns c = lt_of_le_of_lt (mod-le _ _) (search rules)
 
-rem-result : tie.Need-nonzero-rem-result
-rem-result c = search rules
-
-returns_2 : tie.Need-returns-2
-returns_2 c = lt_of_le_of_lt (mod-le _ _) (search rules)
-
-pub rnd-spec : {M : Type 1} → statement M
-rnd-spec = tie.close (tie.spec mul_next add-next returns rem-result returns_2)
+pub rnd_spec : {M : Type 1} → statement M
+rnd_spec = tie.close (tie.spec overflow_mul-next overflow_add-next returns-then-n-eq0 nonzero_rem-result returns)

@@ -4,51 +4,51 @@ use native.Mathlib.Omega.{arith}
 use Rattle.second.proofs.family.with_joins.Statement.{statement}
 use Rattle.second.proofs.family.with_joins.Tie as tie
 
-abbrev invariant_loop : tie.invariant_loop
-invariant_loop x₀ joins after₀ counter₀ x after counter = Unit {0}
+abbrev invariant-loop : tie.invariant-loop
+invariant-loop x₀ joins after₀ counter₀ x after counter = Unit {0}
 
-abbrev decreases_loop : tie.decreases_loop
-decreases_loop x₀ joins after₀ counter₀ x after counter = joins - counter
+abbrev decreases-loop : tie.decreases-loop
+decreases-loop x₀ joins after₀ counter₀ x after counter = joins - counter
 
-loop_holds : tie.Need-loop-init invariant_loop decreases_loop
-loop_holds c = tt
+loop-init : tie.Need-loop-init invariant-loop decreases-loop
+loop-init c = tt
 
-rnd-requires : tie.Need-rnd-requires invariant_loop decreases_loop
-rnd-requires c κs = tt
+rnd-from-requires : tie.Need-rnd-from-requires invariant-loop decreases-loop
+rnd-from-requires c κs = tt
 
-add-from : tie.Need-overflow-add-from invariant_loop decreases_loop
-add-from c = omega arith
+overflow_add-from : tie.Need-overflow_add-from invariant-loop decreases-loop
+overflow_add-from c = omega arith
 
-random-letter-requires : tie.Need-random-letter-requires invariant_loop decreases_loop
-random-letter-requires c κs = tt
+random_letter-letter-requires : tie.Need-random_letter-letter-requires invariant-loop decreases-loop
+random_letter-letter-requires c κs = tt
 
-with-join-requires : tie.Need-with-join-requires invariant_loop decreases_loop
-with-join-requires c κs = tt
+with_join-after-requires : tie.Need-with_join-after-requires invariant-loop decreases-loop
+with_join-after-requires c κs = tt
 
-add-counter : tie.Need-overflow-add-counter invariant_loop decreases_loop
-add-counter c = omega arith
+overflow_step : tie.Need-overflow_step invariant-loop decreases-loop
+overflow_step c = omega arith
 
-loop_less : tie.Need-loop-smaller invariant_loop decreases_loop
-loop_less c = omega arith
+loop-smaller : tie.Need-loop-smaller invariant-loop decreases-loop
+loop-smaller c = omega arith
 
-loop_again : tie.Need-loop-preserved invariant_loop decreases_loop
-loop_again c = tt
+loop-preserved : tie.Need-loop-preserved invariant-loop decreases-loop
+loop-preserved c = tt
 
-returns : tie.Need-returns invariant_loop decreases_loop
+returns : tie.Need-returns invariant-loop decreases-loop
 returns c = tt
 
-pub with-joins-spec : {M : Type 1} → statement M
-with-joins-spec =
+pub with_joins_spec : {M : Type 1} → statement M
+with_joins_spec =
     tie.close
     (tie.spec
-    invariant_loop
-    decreases_loop
-    loop_holds
-    rnd-requires
-    add-from
-    random-letter-requires
-    with-join-requires
-    add-counter
-    loop_less
-    loop_again
+    invariant-loop
+    decreases-loop
+    loop-init
+    rnd-from-requires
+    overflow_add-from
+    random_letter-letter-requires
+    with_join-after-requires
+    overflow_step
+    loop-smaller
+    loop-preserved
     returns)

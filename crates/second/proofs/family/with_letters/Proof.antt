@@ -4,51 +4,51 @@ use native.Mathlib.Omega.{arith}
 use Rattle.second.proofs.family.with_letters.Statement.{statement}
 use Rattle.second.proofs.family.with_letters.Tie as tie
 
-abbrev invariant_loop : tie.invariant_loop
-invariant_loop x₀ len letters longer₀ counter₀ x longer counter = Unit {0}
+abbrev invariant-loop : tie.invariant-loop
+invariant-loop x₀ len letters longer₀ counter₀ x longer counter = Unit {0}
 
-abbrev decreases_loop : tie.decreases_loop
-decreases_loop x₀ len letters longer₀ counter₀ x longer counter = len - counter
+abbrev decreases-loop : tie.decreases-loop
+decreases-loop x₀ len letters longer₀ counter₀ x longer counter = len - counter
 
-loop_holds : tie.Need-loop-init invariant_loop decreases_loop
-loop_holds c = tt
+loop-init : tie.Need-loop-init invariant-loop decreases-loop
+loop-init c = tt
 
-rnd-requires : tie.Need-rnd-requires invariant_loop decreases_loop
+rnd-requires : tie.Need-rnd-requires invariant-loop decreases-loop
 rnd-requires c κs = tt
 
-add-as-byte : tie.Need-overflow-add-as-byte invariant_loop decreases_loop
-add-as-byte c = omega arith
+overflow_add-rnd : tie.Need-overflow_add-rnd invariant-loop decreases-loop
+overflow_add-rnd c = omega arith
 
-as-byte-requires : tie.Need-as-byte-requires invariant_loop decreases_loop
-as-byte-requires c κs = tt
+as_byte-b-requires : tie.Need-as_byte-b-requires invariant-loop decreases-loop
+as_byte-b-requires c κs = tt
 
-with_byte_requires : tie.Need-with-byte-requires invariant_loop decreases_loop
-with_byte_requires c κs = tt
+with_byte-longer-requires : tie.Need-with_byte-longer-requires invariant-loop decreases-loop
+with_byte-longer-requires c κs = tt
 
-add-counter : tie.Need-overflow-add-counter invariant_loop decreases_loop
-add-counter c = omega arith
+overflow_step : tie.Need-overflow_step invariant-loop decreases-loop
+overflow_step c = omega arith
 
-loop_less : tie.Need-loop-smaller invariant_loop decreases_loop
-loop_less c = omega arith
+loop-smaller : tie.Need-loop-smaller invariant-loop decreases-loop
+loop-smaller c = omega arith
 
-loop_again : tie.Need-loop-preserved invariant_loop decreases_loop
-loop_again c = tt
+loop-preserved : tie.Need-loop-preserved invariant-loop decreases-loop
+loop-preserved c = tt
 
-returns : tie.Need-returns invariant_loop decreases_loop
+returns : tie.Need-returns invariant-loop decreases-loop
 returns c = tt
 
-pub with-letters-spec : {M : Type 1} → statement M
-with-letters-spec =
+pub with_letters_spec : {M : Type 1} → statement M
+with_letters_spec =
     tie.close
     (tie.spec
-    invariant_loop
-    decreases_loop
-    loop_holds
+    invariant-loop
+    decreases-loop
+    loop-init
     rnd-requires
-    add-as-byte
-    as-byte-requires
-    with_byte_requires
-    add-counter
-    loop_less
-    loop_again
+    overflow_add-rnd
+    as_byte-b-requires
+    with_byte-longer-requires
+    overflow_step
+    loop-smaller
+    loop-preserved
     returns)

@@ -5,47 +5,47 @@ use borrow.Author.Rules.{rules}
 use Rattle.second.proofs.letters.mapped.Statement.{statement}
 use Rattle.second.proofs.letters.mapped.Tie as tie
 
-abbrev invariant_loop : tie.invariant_loop
-invariant_loop map bytes letters₀ i₀ letters i = Unit {0}
+abbrev invariant-loop-i : tie.invariant-loop-i
+invariant-loop-i map bytes letters₀ i₀ letters i = Unit {0}
 
-abbrev decreases_loop : tie.decreases_loop
-decreases_loop map bytes letters₀ i₀ letters i = 64 - i
+abbrev decreases-loop-i : tie.decreases-loop-i
+decreases-loop-i map bytes letters₀ i₀ letters i = 64 - i
 
-loop_holds : tie.Need-loop-init invariant_loop decreases_loop
-loop_holds c = tt
+loop-i-init : tie.Need-loop-i-init invariant-loop-i decreases-loop-i
+loop-i-init c = tt
 
-element-copy-out-letter : tie.Need-element-copy-out-letter invariant_loop decreases_loop
-element-copy-out-letter c = search rules
+bounds-bytes-i : tie.Need-bounds-bytes-i invariant-loop-i decreases-loop-i
+bounds-bytes-i c = search rules
 
-letter-requires : tie.Need-letter-requires invariant_loop decreases_loop
+letter-requires : tie.Need-letter-requires invariant-loop-i decreases-loop-i
 letter-requires c κs = tt
 
-array-write-letters : tie.Need-array-write-letters invariant_loop decreases_loop
-array-write-letters c = search rules
+bounds-letters-i : tie.Need-bounds-letters-i invariant-loop-i decreases-loop-i
+bounds-letters-i c = search rules
 
-add-i : tie.Need-overflow-add-i invariant_loop decreases_loop
-add-i c = omega arith
+overflow_step-i : tie.Need-overflow_step-i invariant-loop-i decreases-loop-i
+overflow_step-i c = omega arith
 
-loop_less : tie.Need-loop-smaller invariant_loop decreases_loop
-loop_less c = omega arith
+loop-i-smaller : tie.Need-loop-i-smaller invariant-loop-i decreases-loop-i
+loop-i-smaller c = omega arith
 
-loop_again : tie.Need-loop-preserved invariant_loop decreases_loop
-loop_again c = tt
+loop-i-preserved : tie.Need-loop-i-preserved invariant-loop-i decreases-loop-i
+loop-i-preserved c = tt
 
-returns : tie.Need-returns invariant_loop decreases_loop
+returns : tie.Need-returns invariant-loop-i decreases-loop-i
 returns c = tt
 
 pub mapped_spec : {M : Type 1} → statement M
 mapped_spec =
     tie.close
     (tie.spec
-    invariant_loop
-    decreases_loop
-    loop_holds
-    element-copy-out-letter
+    invariant-loop-i
+    decreases-loop-i
+    loop-i-init
+    bounds-bytes-i
     letter-requires
-    array-write-letters
-    add-i
-    loop_less
-    loop_again
+    bounds-letters-i
+    overflow_step-i
+    loop-i-smaller
+    loop-i-preserved
     returns)

@@ -3,47 +3,47 @@ use native.Mathlib.Omega.{arith}
 use Rattle.second.proofs.readings.mixed_reading.Statement.{statement}
 use Rattle.second.proofs.readings.mixed_reading.Tie as tie
 
-abbrev invariant_loop : tie.invariant_loop
-invariant_loop h last-first len sum₀ k₀ sum k = Unit {0}
+abbrev invariant-loop-k : tie.invariant-loop-k
+invariant-loop-k h last-first len sum₀ k₀ sum k = Unit {0}
 
-abbrev decreases_loop : tie.decreases_loop
-decreases_loop h last-first len sum₀ k₀ sum k = k
+abbrev decreases-loop-k : tie.decreases-loop-k
+decreases-loop-k h last-first len sum₀ k₀ sum k = k
 
-mixed-requires : tie.Need-mixed-requires invariant_loop decreases_loop
-mixed-requires c κs = tt
+mixed-sum-requires : tie.Need-mixed-sum-requires invariant-loop-k decreases-loop-k
+mixed-sum-requires c κs = tt
 
-loop_holds : tie.Need-loop-init invariant_loop decreases_loop
-loop_holds c = tt
+loop-k-init : tie.Need-loop-k-init invariant-loop-k decreases-loop-k
+loop-k-init c = tt
 
-sub-k : tie.Need-overflow-sub-k invariant_loop decreases_loop
-sub-k c = omega arith
+overflow_sub-k : tie.Need-overflow_sub-k invariant-loop-k decreases-loop-k
+overflow_sub-k c = omega arith
 
-number-at-requires : tie.Need-number-at-requires invariant_loop decreases_loop
-number-at-requires c κs = tt
+number_at-requires : tie.Need-number_at-requires invariant-loop-k decreases-loop-k
+number_at-requires c κs = tt
 
-mixed-requires-2 : tie.Need-mixed-requires-2 invariant_loop decreases_loop
-mixed-requires-2 c κs = tt
+mixed-sum-requires-in-loop-k : tie.Need-mixed-sum-requires-in-loop-k invariant-loop-k decreases-loop-k
+mixed-sum-requires-in-loop-k c κs = tt
 
-loop_less : tie.Need-loop-smaller invariant_loop decreases_loop
-loop_less c = omega arith
+loop-k-smaller : tie.Need-loop-k-smaller invariant-loop-k decreases-loop-k
+loop-k-smaller c = omega arith
 
-loop_again : tie.Need-loop-preserved invariant_loop decreases_loop
-loop_again c = tt
+loop-k-preserved : tie.Need-loop-k-preserved invariant-loop-k decreases-loop-k
+loop-k-preserved c = tt
 
-returns : tie.Need-returns invariant_loop decreases_loop
+returns : tie.Need-returns invariant-loop-k decreases-loop-k
 returns c = tt
 
-pub mixed-reading-spec : {M : Type 1} → statement M
-mixed-reading-spec =
+pub mixed_reading_spec : {M : Type 1} → statement M
+mixed_reading_spec =
     tie.close
     (tie.spec
-    invariant_loop
-    decreases_loop
-    mixed-requires
-    loop_holds
-    sub-k
-    number-at-requires
-    mixed-requires-2
-    loop_less
-    loop_again
+    invariant-loop-k
+    decreases-loop-k
+    mixed-sum-requires
+    loop-k-init
+    overflow_sub-k
+    number_at-requires
+    mixed-sum-requires-in-loop-k
+    loop-k-smaller
+    loop-k-preserved
     returns)

@@ -4,55 +4,55 @@ use native.Mathlib.Omega.{arith}
 use Rattle.second.proofs.scan.begun_to.Statement.{statement}
 use Rattle.second.proofs.scan.begun_to.Tie as tie
 
-abbrev invariant_loop : tie.invariant_loop
-invariant_loop letters words text start len count left far₀ k₀ far k = Unit {0}
+abbrev invariant-loop-k : tie.invariant-loop-k
+invariant-loop-k letters words text start len count left far₀ k₀ far k = Unit {0}
 
-abbrev decreases_loop : tie.decreases_loop
-decreases_loop letters words text start len count left far₀ k₀ far k = count - k
+abbrev decreases-loop-k : tie.decreases-loop-k
+decreases-loop-k letters words text start len count left far₀ k₀ far k = count - k
 
-sub-left : tie.Need-overflow-sub-left invariant_loop decreases_loop
-sub-left c = omega arith
+overflow_sub-left : tie.Need-overflow_sub-left invariant-loop-k decreases-loop-k
+overflow_sub-left c = omega arith
 
-loop_holds : tie.Need-loop-init invariant_loop decreases_loop
-loop_holds c = tt
+loop-k-init : tie.Need-loop-k-init invariant-loop-k decreases-loop-k
+loop-k-init c = tt
 
-part-at-requires : tie.Need-part-at-requires invariant_loop decreases_loop
-part-at-requires c κs = tt
+part_at-requires : tie.Need-part_at-requires invariant-loop-k decreases-loop-k
+part_at-requires c κs = tt
 
-in-common-requires : tie.Need-in-common-requires invariant_loop decreases_loop
-in-common-requires c κs = tt
+in_common-common-requires : tie.Need-in_common-common-requires invariant-loop-k decreases-loop-k
+in_common-common-requires c κs = tt
 
-end-of-requires : tie.Need-end-of-requires invariant_loop decreases_loop
-end-of-requires c κs = tt
+end_of-requires : tie.Need-end_of-requires invariant-loop-k decreases-loop-k
+end_of-requires c κs = tt
 
-greatest-requires : tie.Need-greatest-requires invariant_loop decreases_loop
-greatest-requires c κs = tt
+greatest-far-requires : tie.Need-greatest-far-requires invariant-loop-k decreases-loop-k
+greatest-far-requires c κs = tt
 
-add-k : tie.Need-overflow-add-k invariant_loop decreases_loop
-add-k c = omega arith
+overflow_step-k : tie.Need-overflow_step-k invariant-loop-k decreases-loop-k
+overflow_step-k c = omega arith
 
-loop_less : tie.Need-loop-smaller invariant_loop decreases_loop
-loop_less c = omega arith
+loop-k-smaller : tie.Need-loop-k-smaller invariant-loop-k decreases-loop-k
+loop-k-smaller c = omega arith
 
-loop_again : tie.Need-loop-preserved invariant_loop decreases_loop
-loop_again c = tt
+loop-k-preserved : tie.Need-loop-k-preserved invariant-loop-k decreases-loop-k
+loop-k-preserved c = tt
 
-returns : tie.Need-returns invariant_loop decreases_loop
+returns : tie.Need-returns invariant-loop-k decreases-loop-k
 returns c = tt
 
-pub begun-to-spec : {M : Type 1} → statement M
-begun-to-spec =
+pub begun_to_spec : {M : Type 1} → statement M
+begun_to_spec =
     tie.close
     (tie.spec
-    invariant_loop
-    decreases_loop
-    sub-left
-    loop_holds
-    part-at-requires
-    in-common-requires
-    end-of-requires
-    greatest-requires
-    add-k
-    loop_less
-    loop_again
+    invariant-loop-k
+    decreases-loop-k
+    overflow_sub-left
+    loop-k-init
+    part_at-requires
+    in_common-common-requires
+    end_of-requires
+    greatest-far-requires
+    overflow_step-k
+    loop-k-smaller
+    loop-k-preserved
     returns)

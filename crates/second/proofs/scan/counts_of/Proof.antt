@@ -4,55 +4,55 @@ use native.Mathlib.Omega.{arith}
 use Rattle.second.proofs.scan.counts_of.Statement.{statement}
 use Rattle.second.proofs.scan.counts_of.Tie as tie
 
-abbrev invariant_loop : tie.invariant_loop
-invariant_loop letters words text len counts₀ i₀ counts i = Unit {0}
+abbrev invariant-loop-i : tie.invariant-loop-i
+invariant-loop-i letters words text len counts₀ i₀ counts i = Unit {0}
 
-abbrev decreases_loop : tie.decreases_loop
-decreases_loop letters words text len counts₀ i₀ counts i = len - i
+abbrev decreases-loop-i : tie.decreases-loop-i
+decreases-loop-i letters words text len counts₀ i₀ counts i = len - i
 
-with-count-requires : tie.Need-with-count-requires invariant_loop decreases_loop
-with-count-requires c κs = tt
+with_count-counts-requires : tie.Need-with_count-counts-requires invariant-loop-i decreases-loop-i
+with_count-counts-requires c κs = tt
 
-loop_holds : tie.Need-loop-init invariant_loop decreases_loop
-loop_holds c = tt
+loop-i-init : tie.Need-loop-i-init invariant-loop-i decreases-loop-i
+loop-i-init c = tt
 
-add-next-count : tie.Need-overflow-add-next-count invariant_loop decreases_loop
-add-next-count c = omega arith
+overflow_add-i : tie.Need-overflow_add-i invariant-loop-i decreases-loop-i
+overflow_add-i c = omega arith
 
-next-count-requires : tie.Need-next-count-requires invariant_loop decreases_loop
-next-count-requires c κs = tt
+next_count-count-requires : tie.Need-next_count-count-requires invariant-loop-i decreases-loop-i
+next_count-count-requires c κs = tt
 
-add-with-count : tie.Need-overflow-add-with-count invariant_loop decreases_loop
-add-with-count c = omega arith
+overflow_add-i-in-loop-i : tie.Need-overflow_add-i-in-loop-i invariant-loop-i decreases-loop-i
+overflow_add-i-in-loop-i c = omega arith
 
-with-count-requires-2 : tie.Need-with-count-requires-2 invariant_loop decreases_loop
-with-count-requires-2 c κs = tt
+with_count-counts-requires-in-loop-i : tie.Need-with_count-counts-requires-in-loop-i invariant-loop-i decreases-loop-i
+with_count-counts-requires-in-loop-i c κs = tt
 
-add-i : tie.Need-overflow-add-i invariant_loop decreases_loop
-add-i c = omega arith
+overflow_step-i : tie.Need-overflow_step-i invariant-loop-i decreases-loop-i
+overflow_step-i c = omega arith
 
-loop_less : tie.Need-loop-smaller invariant_loop decreases_loop
-loop_less c = omega arith
+loop-i-smaller : tie.Need-loop-i-smaller invariant-loop-i decreases-loop-i
+loop-i-smaller c = omega arith
 
-loop_again : tie.Need-loop-preserved invariant_loop decreases_loop
-loop_again c = tt
+loop-i-preserved : tie.Need-loop-i-preserved invariant-loop-i decreases-loop-i
+loop-i-preserved c = tt
 
-returns : tie.Need-returns invariant_loop decreases_loop
+returns : tie.Need-returns invariant-loop-i decreases-loop-i
 returns c = tt
 
-pub counts-of-spec : {M : Type 1} → statement M
-counts-of-spec =
+pub counts_of_spec : {M : Type 1} → statement M
+counts_of_spec =
     tie.close
     (tie.spec
-    invariant_loop
-    decreases_loop
-    with-count-requires
-    loop_holds
-    add-next-count
-    next-count-requires
-    add-with-count
-    with-count-requires-2
-    add-i
-    loop_less
-    loop_again
+    invariant-loop-i
+    decreases-loop-i
+    with_count-counts-requires
+    loop-i-init
+    overflow_add-i
+    next_count-count-requires
+    overflow_add-i-in-loop-i
+    with_count-counts-requires-in-loop-i
+    overflow_step-i
+    loop-i-smaller
+    loop-i-preserved
     returns)

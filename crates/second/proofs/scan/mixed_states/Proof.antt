@@ -4,47 +4,47 @@ use native.Mathlib.Omega.{arith}
 use Rattle.second.proofs.scan.mixed_states.Statement.{statement}
 use Rattle.second.proofs.scan.mixed_states.Tie as tie
 
-abbrev invariant_loop : tie.invariant_loop
-invariant_loop h letters states text len end sum₀ i₀ sum i = Unit {0}
+abbrev invariant-loop-i : tie.invariant-loop-i
+invariant-loop-i h letters states text len end sum₀ i₀ sum i = Unit {0}
 
-abbrev decreases_loop : tie.decreases_loop
-decreases_loop h letters states text len end sum₀ i₀ sum i = end - i
+abbrev decreases-loop-i : tie.decreases-loop-i
+decreases-loop-i h letters states text len end sum₀ i₀ sum i = end - i
 
-positions-requires : tie.Need-positions-requires invariant_loop decreases_loop
-positions-requires c κs = tt
+positions-end-requires : tie.Need-positions-end-requires invariant-loop-i decreases-loop-i
+positions-end-requires c κs = tt
 
-loop_holds : tie.Need-loop-init invariant_loop decreases_loop
-loop_holds c = tt
+loop-i-init : tie.Need-loop-i-init invariant-loop-i decreases-loop-i
+loop-i-init c = tt
 
-longest-before-requires : tie.Need-longest-before-requires invariant_loop decreases_loop
-longest-before-requires c κs = tt
+longest_before-requires : tie.Need-longest_before-requires invariant-loop-i decreases-loop-i
+longest_before-requires c κs = tt
 
-mixed-requires : tie.Need-mixed-requires invariant_loop decreases_loop
-mixed-requires c κs = tt
+mixed-sum-requires : tie.Need-mixed-sum-requires invariant-loop-i decreases-loop-i
+mixed-sum-requires c κs = tt
 
-add-i : tie.Need-overflow-add-i invariant_loop decreases_loop
-add-i c = omega arith
+overflow_step-i : tie.Need-overflow_step-i invariant-loop-i decreases-loop-i
+overflow_step-i c = omega arith
 
-loop_less : tie.Need-loop-smaller invariant_loop decreases_loop
-loop_less c = omega arith
+loop-i-smaller : tie.Need-loop-i-smaller invariant-loop-i decreases-loop-i
+loop-i-smaller c = omega arith
 
-loop_again : tie.Need-loop-preserved invariant_loop decreases_loop
-loop_again c = tt
+loop-i-preserved : tie.Need-loop-i-preserved invariant-loop-i decreases-loop-i
+loop-i-preserved c = tt
 
-returns : tie.Need-returns invariant_loop decreases_loop
+returns : tie.Need-returns invariant-loop-i decreases-loop-i
 returns c = tt
 
-pub mixed-states-spec : {M : Type 1} → statement M
-mixed-states-spec =
+pub mixed_states_spec : {M : Type 1} → statement M
+mixed_states_spec =
     tie.close
     (tie.spec
-    invariant_loop
-    decreases_loop
-    positions-requires
-    loop_holds
-    longest-before-requires
-    mixed-requires
-    add-i
-    loop_less
-    loop_again
+    invariant-loop-i
+    decreases-loop-i
+    positions-end-requires
+    loop-i-init
+    longest_before-requires
+    mixed-sum-requires
+    overflow_step-i
+    loop-i-smaller
+    loop-i-preserved
     returns)

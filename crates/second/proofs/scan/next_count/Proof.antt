@@ -4,47 +4,47 @@ use native.Mathlib.Omega.{arith}
 use Rattle.second.proofs.scan.next_count.Statement.{statement}
 use Rattle.second.proofs.scan.next_count.Tie as tie
 
-abbrev invariant_loop : tie.invariant_loop
-invariant_loop letters words text end counts count total₀ k₀ total k = Unit {0}
+abbrev invariant-loop-k : tie.invariant-loop-k
+invariant-loop-k letters words text end counts count total₀ k₀ total k = Unit {0}
 
-abbrev decreases_loop : tie.decreases_loop
-decreases_loop letters words text end counts count total₀ k₀ total k = count - k
+abbrev decreases-loop-k : tie.decreases-loop-k
+decreases-loop-k letters words text end counts count total₀ k₀ total k = count - k
 
-loop_holds : tie.Need-loop-init invariant_loop decreases_loop
-loop_holds c = tt
+loop-k-init : tie.Need-loop-k-init invariant-loop-k decreases-loop-k
+loop-k-init c = tt
 
-part-at-requires : tie.Need-part-at-requires invariant_loop decreases_loop
-part-at-requires c κs = tt
+part_at-requires : tie.Need-part_at-requires invariant-loop-k decreases-loop-k
+part_at-requires c κs = tt
 
-count-before-requires : tie.Need-count-before-requires invariant_loop decreases_loop
-count-before-requires c κs = tt
+count_before-requires : tie.Need-count_before-requires invariant-loop-k decreases-loop-k
+count_before-requires c κs = tt
 
-plus-requires : tie.Need-plus-requires invariant_loop decreases_loop
-plus-requires c κs = tt
+plus-total-requires : tie.Need-plus-total-requires invariant-loop-k decreases-loop-k
+plus-total-requires c κs = tt
 
-add-k : tie.Need-overflow-add-k invariant_loop decreases_loop
-add-k c = omega arith
+overflow_step-k : tie.Need-overflow_step-k invariant-loop-k decreases-loop-k
+overflow_step-k c = omega arith
 
-loop_less : tie.Need-loop-smaller invariant_loop decreases_loop
-loop_less c = omega arith
+loop-k-smaller : tie.Need-loop-k-smaller invariant-loop-k decreases-loop-k
+loop-k-smaller c = omega arith
 
-loop_again : tie.Need-loop-preserved invariant_loop decreases_loop
-loop_again c = tt
+loop-k-preserved : tie.Need-loop-k-preserved invariant-loop-k decreases-loop-k
+loop-k-preserved c = tt
 
-returns : tie.Need-returns invariant_loop decreases_loop
+returns : tie.Need-returns invariant-loop-k decreases-loop-k
 returns c = tt
 
-pub next-count-spec : {M : Type 1} → statement M
-next-count-spec =
+pub next_count_spec : {M : Type 1} → statement M
+next_count_spec =
     tie.close
     (tie.spec
-    invariant_loop
-    decreases_loop
-    loop_holds
-    part-at-requires
-    count-before-requires
-    plus-requires
-    add-k
-    loop_less
-    loop_again
+    invariant-loop-k
+    decreases-loop-k
+    loop-k-init
+    part_at-requires
+    count_before-requires
+    plus-total-requires
+    overflow_step-k
+    loop-k-smaller
+    loop-k-preserved
     returns)

@@ -4,47 +4,47 @@ use native.Mathlib.Omega.{arith}
 use Rattle.second.proofs.scan.probes.Statement.{statement}
 use Rattle.second.proofs.scan.probes.Tie as tie
 
-abbrev invariant_loop : tie.invariant_loop
-invariant_loop letters words text len end total₀ i₀ total i = Unit {0}
+abbrev invariant-loop-i : tie.invariant-loop-i
+invariant-loop-i letters words text len end total₀ i₀ total i = Unit {0}
 
-abbrev decreases_loop : tie.decreases_loop
-decreases_loop letters words text len end total₀ i₀ total i = end - i
+abbrev decreases-loop-i : tie.decreases-loop-i
+decreases-loop-i letters words text len end total₀ i₀ total i = end - i
 
-positions-requires : tie.Need-positions-requires invariant_loop decreases_loop
-positions-requires c κs = tt
+positions-end-requires : tie.Need-positions-end-requires invariant-loop-i decreases-loop-i
+positions-end-requires c κs = tt
 
-loop_holds : tie.Need-loop-init invariant_loop decreases_loop
-loop_holds c = tt
+loop-i-init : tie.Need-loop-i-init invariant-loop-i decreases-loop-i
+loop-i-init c = tt
 
-how-many-end-requires : tie.Need-how-many-end-requires invariant_loop decreases_loop
-how-many-end-requires c κs = tt
+how_many_end-requires : tie.Need-how_many_end-requires invariant-loop-i decreases-loop-i
+how_many_end-requires c κs = tt
 
-plus-requires : tie.Need-plus-requires invariant_loop decreases_loop
-plus-requires c κs = tt
+plus-total-requires : tie.Need-plus-total-requires invariant-loop-i decreases-loop-i
+plus-total-requires c κs = tt
 
-add-i : tie.Need-overflow-add-i invariant_loop decreases_loop
-add-i c = omega arith
+overflow_step-i : tie.Need-overflow_step-i invariant-loop-i decreases-loop-i
+overflow_step-i c = omega arith
 
-loop_less : tie.Need-loop-smaller invariant_loop decreases_loop
-loop_less c = omega arith
+loop-i-smaller : tie.Need-loop-i-smaller invariant-loop-i decreases-loop-i
+loop-i-smaller c = omega arith
 
-loop_again : tie.Need-loop-preserved invariant_loop decreases_loop
-loop_again c = tt
+loop-i-preserved : tie.Need-loop-i-preserved invariant-loop-i decreases-loop-i
+loop-i-preserved c = tt
 
-returns : tie.Need-returns invariant_loop decreases_loop
+returns : tie.Need-returns invariant-loop-i decreases-loop-i
 returns c = tt
 
-pub probes-spec : {M : Type 1} → statement M
-probes-spec =
+pub probes_spec : {M : Type 1} → statement M
+probes_spec =
     tie.close
     (tie.spec
-    invariant_loop
-    decreases_loop
-    positions-requires
-    loop_holds
-    how-many-end-requires
-    plus-requires
-    add-i
-    loop_less
-    loop_again
+    invariant-loop-i
+    decreases-loop-i
+    positions-end-requires
+    loop-i-init
+    how_many_end-requires
+    plus-total-requires
+    overflow_step-i
+    loop-i-smaller
+    loop-i-preserved
     returns)

@@ -4,47 +4,47 @@ use native.Mathlib.Omega.{arith}
 use Rattle.second.proofs.strings.find.Statement.{statement}
 use Rattle.second.proofs.strings.find.Tie as tie
 
-abbrev invariant_loop : tie.invariant_loop
-invariant_loop letters parts s from len count k₀ k = Unit {0}
+abbrev invariant-loop-k : tie.invariant-loop-k
+invariant-loop-k letters parts s from len count k₀ k = Unit {0}
 
-abbrev decreases_loop : tie.decreases_loop
-decreases_loop letters parts s from len count k₀ k = count - k
+abbrev decreases-loop-k : tie.decreases-loop-k
+decreases-loop-k letters parts s from len count k₀ k = count - k
 
-loop_holds : tie.Need-loop-init invariant_loop decreases_loop
-loop_holds c = tt
+loop-k-init : tie.Need-loop-k-init invariant-loop-k decreases-loop-k
+loop-k-init c = tt
 
-part-at-requires : tie.Need-part-at-requires invariant_loop decreases_loop
-part-at-requires c κs = tt
+part_at-requires : tie.Need-part_at-requires invariant-loop-k decreases-loop-k
+part_at-requires c κs = tt
 
-is-part-requires : tie.Need-is-part-requires invariant_loop decreases_loop
-is-part-requires c κs = tt
+is_part-requires : tie.Need-is_part-requires invariant-loop-k decreases-loop-k
+is_part-requires c κs = tt
 
-returns : tie.Need-returns invariant_loop decreases_loop
+returns-then-is_part : tie.Need-returns-then-is_part invariant-loop-k decreases-loop-k
+returns-then-is_part c = tt
+
+overflow_step-k : tie.Need-overflow_step-k invariant-loop-k decreases-loop-k
+overflow_step-k c = omega arith
+
+loop-k-smaller : tie.Need-loop-k-smaller invariant-loop-k decreases-loop-k
+loop-k-smaller c = omega arith
+
+loop-k-preserved : tie.Need-loop-k-preserved invariant-loop-k decreases-loop-k
+loop-k-preserved c = tt
+
+returns : tie.Need-returns invariant-loop-k decreases-loop-k
 returns c = tt
-
-add-k : tie.Need-overflow-add-k invariant_loop decreases_loop
-add-k c = omega arith
-
-loop_less : tie.Need-loop-smaller invariant_loop decreases_loop
-loop_less c = omega arith
-
-loop_again : tie.Need-loop-preserved invariant_loop decreases_loop
-loop_again c = tt
-
-returns_2 : tie.Need-returns-2 invariant_loop decreases_loop
-returns_2 c = tt
 
 pub find_spec : {M : Type 1} → statement M
 find_spec =
     tie.close
     (tie.spec
-    invariant_loop
-    decreases_loop
-    loop_holds
-    part-at-requires
-    is-part-requires
-    returns
-    add-k
-    loop_less
-    loop_again
-    returns_2)
+    invariant-loop-k
+    decreases-loop-k
+    loop-k-init
+    part_at-requires
+    is_part-requires
+    returns-then-is_part
+    overflow_step-k
+    loop-k-smaller
+    loop-k-preserved
+    returns)

@@ -4,47 +4,47 @@ use native.Mathlib.Omega.{arith}
 use Rattle.second.proofs.strings.how_many_end.Statement.{statement}
 use Rattle.second.proofs.strings.how_many_end.Tie as tie
 
-abbrev invariant_loop : tie.invariant_loop
-invariant_loop letters parts s end most count n₀ k₀ n k = Unit {0}
+abbrev invariant-loop-k : tie.invariant-loop-k
+invariant-loop-k letters parts s end most count n₀ k₀ n k = Unit {0}
 
-abbrev decreases_loop : tie.decreases_loop
-decreases_loop letters parts s end most count n₀ k₀ n k = count - k
+abbrev decreases-loop-k : tie.decreases-loop-k
+decreases-loop-k letters parts s end most count n₀ k₀ n k = count - k
 
-loop_holds : tie.Need-loop-init invariant_loop decreases_loop
-loop_holds c = tt
+loop-k-init : tie.Need-loop-k-init invariant-loop-k decreases-loop-k
+loop-k-init c = tt
 
-part-at-requires : tie.Need-part-at-requires invariant_loop decreases_loop
-part-at-requires c κs = tt
+part_at-requires : tie.Need-part_at-requires invariant-loop-k decreases-loop-k
+part_at-requires c κs = tt
 
-ends-requires : tie.Need-ends-requires invariant_loop decreases_loop
+ends-requires : tie.Need-ends-requires invariant-loop-k decreases-loop-k
 ends-requires c κs = tt
 
-plus-requires : tie.Need-plus-requires invariant_loop decreases_loop
-plus-requires c κs = tt
+plus-n-requires : tie.Need-plus-n-requires invariant-loop-k decreases-loop-k
+plus-n-requires c κs = tt
 
-add-k : tie.Need-overflow-add-k invariant_loop decreases_loop
-add-k c = omega arith
+overflow_step-k : tie.Need-overflow_step-k invariant-loop-k decreases-loop-k
+overflow_step-k c = omega arith
 
-loop_less : tie.Need-loop-smaller invariant_loop decreases_loop
-loop_less c = omega arith
+loop-k-smaller : tie.Need-loop-k-smaller invariant-loop-k decreases-loop-k
+loop-k-smaller c = omega arith
 
-loop_again : tie.Need-loop-preserved invariant_loop decreases_loop
-loop_again c = tt
+loop-k-preserved : tie.Need-loop-k-preserved invariant-loop-k decreases-loop-k
+loop-k-preserved c = tt
 
-returns : tie.Need-returns invariant_loop decreases_loop
+returns : tie.Need-returns invariant-loop-k decreases-loop-k
 returns c = tt
 
-pub how-many-end-spec : {M : Type 1} → statement M
-how-many-end-spec =
+pub how_many_end_spec : {M : Type 1} → statement M
+how_many_end_spec =
     tie.close
     (tie.spec
-    invariant_loop
-    decreases_loop
-    loop_holds
-    part-at-requires
+    invariant-loop-k
+    decreases-loop-k
+    loop-k-init
+    part_at-requires
     ends-requires
-    plus-requires
-    add-k
-    loop_less
-    loop_again
+    plus-n-requires
+    overflow_step-k
+    loop-k-smaller
+    loop-k-preserved
     returns)

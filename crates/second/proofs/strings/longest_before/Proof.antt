@@ -3,47 +3,47 @@ use native.Mathlib.Omega.{arith}
 use Rattle.second.proofs.strings.longest_before.Statement.{statement}
 use Rattle.second.proofs.strings.longest_before.Tie as tie
 
-abbrev invariant_loop : tie.invariant_loop
-invariant_loop letters parts s end most len₀ len = Unit {0}
+abbrev invariant-loop-len : tie.invariant-loop-len
+invariant-loop-len letters parts s end most len₀ len = Unit {0}
 
-abbrev decreases_loop : tie.decreases_loop
-decreases_loop letters parts s end most len₀ len = len
+abbrev decreases-loop-len : tie.decreases-loop-len
+decreases-loop-len letters parts s end most len₀ len = len
 
-loop_holds : tie.Need-loop-init invariant_loop decreases_loop
-loop_holds c = tt
+loop-len-init : tie.Need-loop-len-init invariant-loop-len decreases-loop-len
+loop-len-init c = tt
 
-find-before-requires : tie.Need-find-before-requires invariant_loop decreases_loop
-find-before-requires c κs = tt
+find_before-k-requires : tie.Need-find_before-k-requires invariant-loop-len decreases-loop-len
+find_before-k-requires c κs = tt
 
-returns : tie.Need-returns invariant_loop decreases_loop
+returns-then-k-ne-NONE : tie.Need-returns-then-k-ne-NONE invariant-loop-len decreases-loop-len
+returns-then-k-ne-NONE c = tt
+
+overflow_sub-len : tie.Need-overflow_sub-len invariant-loop-len decreases-loop-len
+overflow_sub-len c = omega arith
+
+loop-len-smaller : tie.Need-loop-len-smaller invariant-loop-len decreases-loop-len
+loop-len-smaller c = omega arith
+
+loop-len-preserved : tie.Need-loop-len-preserved invariant-loop-len decreases-loop-len
+loop-len-preserved c = tt
+
+find_before-requires : tie.Need-find_before-requires invariant-loop-len decreases-loop-len
+find_before-requires c κs = tt
+
+returns : tie.Need-returns invariant-loop-len decreases-loop-len
 returns c = tt
 
-sub-len : tie.Need-overflow-sub-len invariant_loop decreases_loop
-sub-len c = omega arith
-
-loop_less : tie.Need-loop-smaller invariant_loop decreases_loop
-loop_less c = omega arith
-
-loop_again : tie.Need-loop-preserved invariant_loop decreases_loop
-loop_again c = tt
-
-find-before-requires-2 : tie.Need-find-before-requires-2 invariant_loop decreases_loop
-find-before-requires-2 c κs = tt
-
-returns_2 : tie.Need-returns-2 invariant_loop decreases_loop
-returns_2 c = tt
-
-pub longest-before-spec : {M : Type 1} → statement M
-longest-before-spec =
+pub longest_before_spec : {M : Type 1} → statement M
+longest_before_spec =
     tie.close
     (tie.spec
-    invariant_loop
-    decreases_loop
-    loop_holds
-    find-before-requires
-    returns
-    sub-len
-    loop_less
-    loop_again
-    find-before-requires-2
-    returns_2)
+    invariant-loop-len
+    decreases-loop-len
+    loop-len-init
+    find_before-k-requires
+    returns-then-k-ne-NONE
+    overflow_sub-len
+    loop-len-smaller
+    loop-len-preserved
+    find_before-requires
+    returns)

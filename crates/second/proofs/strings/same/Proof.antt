@@ -4,47 +4,47 @@ use native.Mathlib.Omega.{arith}
 use Rattle.second.proofs.strings.same.Statement.{statement}
 use Rattle.second.proofs.strings.same.Tie as tie
 
-abbrev invariant_loop : tie.invariant_loop
-invariant_loop a i b j len k₀ k = Unit {0}
+abbrev invariant-loop-k : tie.invariant-loop-k
+invariant-loop-k a i b j len k₀ k = Unit {0}
 
-abbrev decreases_loop : tie.decreases_loop
-decreases_loop a i b j len k₀ k = len - k
+abbrev decreases-loop-k : tie.decreases-loop-k
+decreases-loop-k a i b j len k₀ k = len - k
 
-loop_holds : tie.Need-loop-init invariant_loop decreases_loop
-loop_holds c = tt
+loop-k-init : tie.Need-loop-k-init invariant-loop-k decreases-loop-k
+loop-k-init c = tt
 
-byte-at-requires : tie.Need-byte-at-requires invariant_loop decreases_loop
-byte-at-requires c κs = tt
+byte_at-requires : tie.Need-byte_at-requires invariant-loop-k decreases-loop-k
+byte_at-requires c κs = tt
 
-byte-at-requires-2 : tie.Need-byte-at-requires-2 invariant_loop decreases_loop
-byte-at-requires-2 c κs = tt
+byte_at-requires-in-loop-k : tie.Need-byte_at-requires-in-loop-k invariant-loop-k decreases-loop-k
+byte_at-requires-in-loop-k c κs = tt
 
-returns : tie.Need-returns invariant_loop decreases_loop
+returns-then-byte_at : tie.Need-returns-then-byte_at invariant-loop-k decreases-loop-k
+returns-then-byte_at c = tt
+
+overflow_step-k : tie.Need-overflow_step-k invariant-loop-k decreases-loop-k
+overflow_step-k c = omega arith
+
+loop-k-smaller : tie.Need-loop-k-smaller invariant-loop-k decreases-loop-k
+loop-k-smaller c = omega arith
+
+loop-k-preserved : tie.Need-loop-k-preserved invariant-loop-k decreases-loop-k
+loop-k-preserved c = tt
+
+returns : tie.Need-returns invariant-loop-k decreases-loop-k
 returns c = tt
-
-add-k : tie.Need-overflow-add-k invariant_loop decreases_loop
-add-k c = omega arith
-
-loop_less : tie.Need-loop-smaller invariant_loop decreases_loop
-loop_less c = omega arith
-
-loop_again : tie.Need-loop-preserved invariant_loop decreases_loop
-loop_again c = tt
-
-returns_2 : tie.Need-returns-2 invariant_loop decreases_loop
-returns_2 c = tt
 
 pub same_spec : {M : Type 1} → statement M
 same_spec =
     tie.close
     (tie.spec
-    invariant_loop
-    decreases_loop
-    loop_holds
-    byte-at-requires
-    byte-at-requires-2
-    returns
-    add-k
-    loop_less
-    loop_again
-    returns_2)
+    invariant-loop-k
+    decreases-loop-k
+    loop-k-init
+    byte_at-requires
+    byte_at-requires-in-loop-k
+    returns-then-byte_at
+    overflow_step-k
+    loop-k-smaller
+    loop-k-preserved
+    returns)

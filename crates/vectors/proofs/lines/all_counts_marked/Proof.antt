@@ -5,47 +5,47 @@ use borrow.Author.Rules.{rules}
 use Rattle.vectors.proofs.lines.all_counts_marked.Statement.{statement}
 use Rattle.vectors.proofs.lines.all_counts_marked.Tie as tie
 
-abbrev invariant_loop : tie.invariant_loop
-invariant_loop counts len i₀ i = Unit {0}
+abbrev invariant-loop-i : tie.invariant-loop-i
+invariant-loop-i counts len i₀ i = Unit {0}
 
-abbrev decreases_loop : tie.decreases_loop
-decreases_loop counts len i₀ i = len - i
+abbrev decreases-loop-i : tie.decreases-loop-i
+decreases-loop-i counts len i₀ i = len - i
 
-loop_holds : tie.Need-loop-init invariant_loop decreases_loop
-loop_holds c = tt
+loop-i-init : tie.Need-loop-i-init invariant-loop-i decreases-loop-i
+loop-i-init c = tt
 
-mul-if1 : tie.Need-overflow-mul-if1 invariant_loop decreases_loop
-mul-if1 c = search rules
+offset_bounds-counts-i : tie.Need-offset_bounds-counts-i invariant-loop-i decreases-loop-i
+offset_bounds-counts-i c = search rules
 
-shared-slice-read-if1 : tie.Need-shared-slice-read-if1 invariant_loop decreases_loop
-shared-slice-read-if1 c = search rules
+bounds-counts-i : tie.Need-bounds-counts-i invariant-loop-i decreases-loop-i
+bounds-counts-i c = search rules
 
-returns : tie.Need-returns invariant_loop decreases_loop
+returns-then-counts-i-ne7 : tie.Need-returns-then-counts-i-ne7 invariant-loop-i decreases-loop-i
+returns-then-counts-i-ne7 c = tt
+
+overflow_step-i : tie.Need-overflow_step-i invariant-loop-i decreases-loop-i
+overflow_step-i c = omega arith
+
+loop-i-smaller : tie.Need-loop-i-smaller invariant-loop-i decreases-loop-i
+loop-i-smaller c = omega arith
+
+loop-i-preserved : tie.Need-loop-i-preserved invariant-loop-i decreases-loop-i
+loop-i-preserved c = tt
+
+returns : tie.Need-returns invariant-loop-i decreases-loop-i
 returns c = tt
 
-add-i : tie.Need-overflow-add-i invariant_loop decreases_loop
-add-i c = omega arith
-
-loop_less : tie.Need-loop-smaller invariant_loop decreases_loop
-loop_less c = omega arith
-
-loop_again : tie.Need-loop-preserved invariant_loop decreases_loop
-loop_again c = tt
-
-returns_2 : tie.Need-returns-2 invariant_loop decreases_loop
-returns_2 c = tt
-
-pub all-counts-marked-spec : {M : Type 1} → statement M
-all-counts-marked-spec =
+pub all_counts_marked_spec : {M : Type 1} → statement M
+all_counts_marked_spec =
     tie.close
     (tie.spec
-    invariant_loop
-    decreases_loop
-    loop_holds
-    mul-if1
-    shared-slice-read-if1
-    returns
-    add-i
-    loop_less
-    loop_again
-    returns_2)
+    invariant-loop-i
+    decreases-loop-i
+    loop-i-init
+    offset_bounds-counts-i
+    bounds-counts-i
+    returns-then-counts-i-ne7
+    overflow_step-i
+    loop-i-smaller
+    loop-i-preserved
+    returns)

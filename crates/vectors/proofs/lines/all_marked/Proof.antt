@@ -5,47 +5,47 @@ use borrow.Author.Rules.{rules}
 use Rattle.vectors.proofs.lines.all_marked.Statement.{statement}
 use Rattle.vectors.proofs.lines.all_marked.Tie as tie
 
-abbrev invariant_loop : tie.invariant_loop
-invariant_loop numbers len i₀ i = Unit {0}
+abbrev invariant-loop-i : tie.invariant-loop-i
+invariant-loop-i numbers len i₀ i = Unit {0}
 
-abbrev decreases_loop : tie.decreases_loop
-decreases_loop numbers len i₀ i = len - i
+abbrev decreases-loop-i : tie.decreases-loop-i
+decreases-loop-i numbers len i₀ i = len - i
 
-loop_holds : tie.Need-loop-init invariant_loop decreases_loop
-loop_holds c = tt
+loop-i-init : tie.Need-loop-i-init invariant-loop-i decreases-loop-i
+loop-i-init c = tt
 
-mul-if1 : tie.Need-overflow-mul-if1 invariant_loop decreases_loop
-mul-if1 c = search rules
+offset_bounds-numbers-i : tie.Need-offset_bounds-numbers-i invariant-loop-i decreases-loop-i
+offset_bounds-numbers-i c = search rules
 
-shared-slice-read-if1 : tie.Need-shared-slice-read-if1 invariant_loop decreases_loop
-shared-slice-read-if1 c = search rules
+bounds-numbers-i : tie.Need-bounds-numbers-i invariant-loop-i decreases-loop-i
+bounds-numbers-i c = search rules
 
-returns : tie.Need-returns invariant_loop decreases_loop
+returns-then-numbers-i-ne7 : tie.Need-returns-then-numbers-i-ne7 invariant-loop-i decreases-loop-i
+returns-then-numbers-i-ne7 c = tt
+
+overflow_step-i : tie.Need-overflow_step-i invariant-loop-i decreases-loop-i
+overflow_step-i c = omega arith
+
+loop-i-smaller : tie.Need-loop-i-smaller invariant-loop-i decreases-loop-i
+loop-i-smaller c = omega arith
+
+loop-i-preserved : tie.Need-loop-i-preserved invariant-loop-i decreases-loop-i
+loop-i-preserved c = tt
+
+returns : tie.Need-returns invariant-loop-i decreases-loop-i
 returns c = tt
 
-add-i : tie.Need-overflow-add-i invariant_loop decreases_loop
-add-i c = omega arith
-
-loop_less : tie.Need-loop-smaller invariant_loop decreases_loop
-loop_less c = omega arith
-
-loop_again : tie.Need-loop-preserved invariant_loop decreases_loop
-loop_again c = tt
-
-returns_2 : tie.Need-returns-2 invariant_loop decreases_loop
-returns_2 c = tt
-
-pub all-marked-spec : {M : Type 1} → statement M
-all-marked-spec =
+pub all_marked_spec : {M : Type 1} → statement M
+all_marked_spec =
     tie.close
     (tie.spec
-    invariant_loop
-    decreases_loop
-    loop_holds
-    mul-if1
-    shared-slice-read-if1
-    returns
-    add-i
-    loop_less
-    loop_again
-    returns_2)
+    invariant-loop-i
+    decreases-loop-i
+    loop-i-init
+    offset_bounds-numbers-i
+    bounds-numbers-i
+    returns-then-numbers-i-ne7
+    overflow_step-i
+    loop-i-smaller
+    loop-i-preserved
+    returns)

@@ -5,59 +5,59 @@ use borrow.Author.Rules.{rules}
 use Rattle.vectors.proofs.lines.same_numbers.Statement.{statement}
 use Rattle.vectors.proofs.lines.same_numbers.Tie as tie
 
-abbrev invariant_loop : tie.invariant_loop
-invariant_loop a b len i₀ i = Unit {0}
+abbrev invariant-loop-i : tie.invariant-loop-i
+invariant-loop-i a b len i₀ i = Unit {0}
 
-abbrev decreases_loop : tie.decreases_loop
-decreases_loop a b len i₀ i = len - i
+abbrev decreases-loop-i : tie.decreases-loop-i
+decreases-loop-i a b len i₀ i = len - i
 
-returns : tie.Need-returns invariant_loop decreases_loop
+returns-then-b-len : tie.Need-returns-then-b-len invariant-loop-i decreases-loop-i
+returns-then-b-len c = tt
+
+loop-i-init : tie.Need-loop-i-init invariant-loop-i decreases-loop-i
+loop-i-init c = tt
+
+offset_bounds-a-i : tie.Need-offset_bounds-a-i invariant-loop-i decreases-loop-i
+offset_bounds-a-i c = search rules
+
+bounds-a-i : tie.Need-bounds-a-i invariant-loop-i decreases-loop-i
+bounds-a-i c = search rules
+
+offset_bounds-b-i : tie.Need-offset_bounds-b-i invariant-loop-i decreases-loop-i
+offset_bounds-b-i c = search rules
+
+bounds-b-i : tie.Need-bounds-b-i invariant-loop-i decreases-loop-i
+bounds-b-i c = search rules
+
+returns-then-a-i : tie.Need-returns-then-a-i invariant-loop-i decreases-loop-i
+returns-then-a-i c = tt
+
+overflow_step-i : tie.Need-overflow_step-i invariant-loop-i decreases-loop-i
+overflow_step-i c = omega arith
+
+loop-i-smaller : tie.Need-loop-i-smaller invariant-loop-i decreases-loop-i
+loop-i-smaller c = omega arith
+
+loop-i-preserved : tie.Need-loop-i-preserved invariant-loop-i decreases-loop-i
+loop-i-preserved c = tt
+
+returns : tie.Need-returns invariant-loop-i decreases-loop-i
 returns c = tt
 
-loop_holds : tie.Need-loop-init invariant_loop decreases_loop
-loop_holds c = tt
-
-mul-if2 : tie.Need-overflow-mul-if2 invariant_loop decreases_loop
-mul-if2 c = search rules
-
-shared-slice-read-if2 : tie.Need-shared-slice-read-if2 invariant_loop decreases_loop
-shared-slice-read-if2 c = search rules
-
-mul-if2-2 : tie.Need-overflow-mul-if2-2 invariant_loop decreases_loop
-mul-if2-2 c = search rules
-
-shared-slice-read-if2-2 : tie.Need-shared-slice-read-if2-2 invariant_loop decreases_loop
-shared-slice-read-if2-2 c = search rules
-
-returns_2 : tie.Need-returns-2 invariant_loop decreases_loop
-returns_2 c = tt
-
-add-i : tie.Need-overflow-add-i invariant_loop decreases_loop
-add-i c = omega arith
-
-loop_less : tie.Need-loop-smaller invariant_loop decreases_loop
-loop_less c = omega arith
-
-loop_again : tie.Need-loop-preserved invariant_loop decreases_loop
-loop_again c = tt
-
-returns-3 : tie.Need-returns-3 invariant_loop decreases_loop
-returns-3 c = tt
-
-pub same-numbers-spec : {M : Type 1} → statement M
-same-numbers-spec =
+pub same_numbers_spec : {M : Type 1} → statement M
+same_numbers_spec =
     tie.close
     (tie.spec
-    invariant_loop
-    decreases_loop
-    returns
-    loop_holds
-    mul-if2
-    shared-slice-read-if2
-    mul-if2-2
-    shared-slice-read-if2-2
-    returns_2
-    add-i
-    loop_less
-    loop_again
-    returns-3)
+    invariant-loop-i
+    decreases-loop-i
+    returns-then-b-len
+    loop-i-init
+    offset_bounds-a-i
+    bounds-a-i
+    offset_bounds-b-i
+    bounds-b-i
+    returns-then-a-i
+    overflow_step-i
+    loop-i-smaller
+    loop-i-preserved
+    returns)

@@ -7,43 +7,43 @@ use lib.ListN.{length}
 use Rattle.vectors.proofs.making.put_blocks.Statement.{statement}
 use Rattle.vectors.proofs.making.put_blocks.Tie as tie
 
-abbrev invariant_loop : tie.invariant_loop
-invariant_loop bytes₀ count len end₀ counter₀ bytes end counter = length bytes ≡ length bytes₀
+abbrev invariant-loop : tie.invariant-loop
+invariant-loop bytes₀ count len end₀ counter₀ bytes end counter = length bytes ≡ length bytes₀
 
-abbrev decreases_loop : tie.decreases_loop
-decreases_loop bytes₀ count len end₀ counter₀ bytes end counter = count - counter
+abbrev decreases-loop : tie.decreases-loop
+decreases-loop bytes₀ count len end₀ counter₀ bytes end counter = count - counter
 
-loop_holds : tie.Need-loop-init invariant_loop decreases_loop
-loop_holds c = search rules
+loop-init : tie.Need-loop-init invariant-loop decreases-loop
+loop-init c = search rules
 
-put-block-requires : tie.Need-put-block-requires invariant_loop decreases_loop
-put-block-requires c κs = tt
+put_block-end-requires : tie.Need-put_block-end-requires invariant-loop decreases-loop
+put_block-end-requires c κs = tt
 
-add-counter : tie.Need-overflow-add-counter invariant_loop decreases_loop
-add-counter c = omega arith
+overflow_step : tie.Need-overflow_step invariant-loop decreases-loop
+overflow_step c = omega arith
 
-loop_less : tie.Need-loop-smaller invariant_loop decreases_loop
-loop_less c = omega arith
+loop-smaller : tie.Need-loop-smaller invariant-loop decreases-loop
+loop-smaller c = omega arith
 
-loop_again : tie.Need-loop-preserved invariant_loop decreases_loop
-loop_again c = search rules
+loop-preserved : tie.Need-loop-preserved invariant-loop decreases-loop
+loop-preserved c = search rules
 
-same_length : tie.Need-same-length invariant_loop decreases_loop
-same_length c = search rules
+shape_of-bytes : tie.Need-shape_of-bytes invariant-loop decreases-loop
+shape_of-bytes c = search rules
 
-returns : tie.Need-returns invariant_loop decreases_loop
+returns : tie.Need-returns invariant-loop decreases-loop
 returns c = tt
 
-pub put-blocks-spec : {M : Type 1} → statement M
-put-blocks-spec =
+pub put_blocks_spec : {M : Type 1} → statement M
+put_blocks_spec =
     tie.close
     (tie.spec
-    invariant_loop
-    decreases_loop
-    loop_holds
-    put-block-requires
-    add-counter
-    loop_less
-    loop_again
-    same_length
+    invariant-loop
+    decreases-loop
+    loop-init
+    put_block-end-requires
+    overflow_step
+    loop-smaller
+    loop-preserved
+    shape_of-bytes
     returns)

@@ -7,47 +7,47 @@ use lib.ListN.{length}
 use Rattle.vectors.proofs.making.put_words.Statement.{statement}
 use Rattle.vectors.proofs.making.put_words.Tie as tie
 
-abbrev invariant_loop : tie.invariant_loop
-invariant_loop bytes₀ count len end₀ k₀ bytes end k = length bytes ≡ length bytes₀
+abbrev invariant-loop-k : tie.invariant-loop-k
+invariant-loop-k bytes₀ count len end₀ k₀ bytes end k = length bytes ≡ length bytes₀
 
-abbrev decreases_loop : tie.decreases_loop
-decreases_loop bytes₀ count len end₀ k₀ bytes end k = count - k
+abbrev decreases-loop-k : tie.decreases-loop-k
+decreases-loop-k bytes₀ count len end₀ k₀ bytes end k = count - k
 
-loop_holds : tie.Need-loop-init invariant_loop decreases_loop
-loop_holds c = search rules
+loop-k-init : tie.Need-loop-k-init invariant-loop-k decreases-loop-k
+loop-k-init c = search rules
 
-low-byte-requires : tie.Need-low-byte-requires invariant_loop decreases_loop
-low-byte-requires c κs = tt
+low_byte-requires : tie.Need-low_byte-requires invariant-loop-k decreases-loop-k
+low_byte-requires c κs = tt
 
-put-word-requires : tie.Need-put-word-requires invariant_loop decreases_loop
-put-word-requires c κs = tt
+put_word-end-requires : tie.Need-put_word-end-requires invariant-loop-k decreases-loop-k
+put_word-end-requires c κs = tt
 
-add-k : tie.Need-overflow-add-k invariant_loop decreases_loop
-add-k c = omega arith
+overflow_step-k : tie.Need-overflow_step-k invariant-loop-k decreases-loop-k
+overflow_step-k c = omega arith
 
-loop_less : tie.Need-loop-smaller invariant_loop decreases_loop
-loop_less c = omega arith
+loop-k-smaller : tie.Need-loop-k-smaller invariant-loop-k decreases-loop-k
+loop-k-smaller c = omega arith
 
-loop_again : tie.Need-loop-preserved invariant_loop decreases_loop
-loop_again c = search rules
+loop-k-preserved : tie.Need-loop-k-preserved invariant-loop-k decreases-loop-k
+loop-k-preserved c = search rules
 
-same_length : tie.Need-same-length invariant_loop decreases_loop
-same_length c = search rules
+shape_of-bytes : tie.Need-shape_of-bytes invariant-loop-k decreases-loop-k
+shape_of-bytes c = search rules
 
-returns : tie.Need-returns invariant_loop decreases_loop
+returns : tie.Need-returns invariant-loop-k decreases-loop-k
 returns c = tt
 
-pub put-words-spec : {M : Type 1} → statement M
-put-words-spec =
+pub put_words_spec : {M : Type 1} → statement M
+put_words_spec =
     tie.close
     (tie.spec
-    invariant_loop
-    decreases_loop
-    loop_holds
-    low-byte-requires
-    put-word-requires
-    add-k
-    loop_less
-    loop_again
-    same_length
+    invariant-loop-k
+    decreases-loop-k
+    loop-k-init
+    low_byte-requires
+    put_word-end-requires
+    overflow_step-k
+    loop-k-smaller
+    loop-k-preserved
+    shape_of-bytes
     returns)
