@@ -25,10 +25,10 @@ within : (c : tie.In-loop-head invariant-loop-head decreases-loop-head) → c.lo
 within c = omega (arith, queue_fits (c.loop-head.invariant _ _ c.requires.2).queued, c.loop-head-test.true)
 
 offset_bounds-queue-head : tie.Need-offset_bounds-queue-head invariant-loop-head decreases-loop-head
-offset_bounds-queue-head c = omega (arith, within c)
+offset_bounds-queue-head c = omega (arith, queue_fits (c.loop-head.invariant _ _ c.requires.2).queued, c.loop-head-test.true)
 
 bounds-queue-head : tie.Need-bounds-queue-head invariant-loop-head decreases-loop-head
-bounds-queue-head c = omega (arith, within c)
+bounds-queue-head c = omega (arith, queue_fits (c.loop-head.invariant _ _ c.requires.2).queued, c.loop-head-test.true)
 
 wide-p-requires : tie.Need-wide-p-requires invariant-loop-head decreases-loop-head
 wide-p-requires c κs = tt

@@ -60,7 +60,7 @@ word_len-requires c κs = tt
 
 -- src/building.rt:35:19
 overflow_add-end : tie.Need-overflow_add-end invariant-loop-k decreases-loop-k
-overflow_add-end c = omega (arith, within c, c.good.1.0.0)
+overflow_add-end c = omega (arith, within c, c.well_formed.1.0.0)
 
 -- src/building.rt:36:47
 slice_bounds-insert_word-count : tie.Need-slice_bounds-insert_word-count invariant-loop-k decreases-loop-k

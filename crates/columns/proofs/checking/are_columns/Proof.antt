@@ -59,7 +59,7 @@ entry_after-entry-requires : tie.Need-entry_after-entry-requires invariant-loop-
 entry_after-entry-requires c κs = let (X, ρ) = c.requires in (X, reached c.before X ρ)
 
 overflow_add-i : tie.Need-overflow_add-i invariant-loop-i decreases-loop-i
-overflow_add-i c = record { fits = omega (arith, c.loop-i-test.true, c.good) }
+overflow_add-i c = record { fits = omega (arith, c.loop-i-test.true, c.well_formed) }
 
 holds_at-requires-in-loop-i : tie.Need-holds_at-requires-in-loop-i invariant-loop-i decreases-loop-i
 holds_at-requires-in-loop-i c κs =

@@ -38,7 +38,7 @@ standing : (c : tie.After-wide invariant-loop-i decreases-loop-i) (X : Words) (t
     Asked c.before.before.before.before.before.before.before.before X t → Standing X t a.table.now a.counts.now c.wide.result (c.loop-i.i + 1)
 standing c X t (σ, e) = reach_standing σ (omega (arith, c.loop-i-test.true)) c.wide.ensures.0
 
-tested : (c : tie.After-is_viable invariant-loop-i decreases-loop-i) (X : Words) (t : Word) → Asked c X t → c.is_viable.result ≡ viable X t (c.loop-i.i + 1)
+tested : (c : tie.After-is_viable invariant-loop-i decreases-loop-i) (X : Words) (t : Word) → Asked c.before.before.before.before.before.before.before.before.before X t → c.is_viable.result ≡ viable X t (c.loop-i.i + 1)
 tested c X t q = c.is_viable.ensures X t (standing c.before X t q)
 
 overflow_add-i : tie.Need-overflow_add-i invariant-loop-i decreases-loop-i

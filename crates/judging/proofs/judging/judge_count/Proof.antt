@@ -23,9 +23,6 @@ use Rattle.judging.proofs.Cleared.{scanned}
 use Rattle.judging.proofs.judging.judge_count.Statement.{statement}
 use Rattle.judging.proofs.judging.judge_count.Tie as tie
 
-abbrev entry : tie.After-judge-list → tie.Start
-entry c = c.before.before.before.before.before.before.before
-
 abbrev text : tie.Start → Word
 text s = mapped s.args.map.now s.args.text.now
 
@@ -38,72 +35,62 @@ greatest s X = greatest_refusal X (text s)
 abbrev words : tie.Start → Run
 words s = words_under s.args.map.now s.args.dict.now
 
-abbrev judged : tie.After-enum-told → tie.After-judge-list
-judged c = c.before.before
-
-found : (c : tie.After-enum-told) → let s = entry (judged c) in Passes (columns s) (words s)
+found : (c : tie.In-Passed) → Passes (columns c) (words c)
 found c =
-    let s = entry (judged c) in
-    passes (columns s) (words s) (sym c.enum_told.given.1 ∙ (judged c).judge-list.ensures)
+    passes (columns c.before.before.before.before.before.before.before.before) (words c.before.before.before.before.before.before.before.before) (sym c.in-Passed.is ∙ c.judge_list.ensures)
 
-whole : (c : tie.After-enum-told) → let s = entry (judged c) in
-    Whole (found c).X (text s) s.args.table.now s.args.states.now s.args.counts.now (length s.args.text.now)
+whole : (c : tie.In-Passed) → Whole (found c).X (text c) c.args.table.now c.args.states.now c.args.counts.now (length c.args.text.now)
 whole c =
-    let a = (entry (judged c)).args in
+    let a = c.args in
     let p = found c in
     let good = passed_allowed a.map.now a.dict.now
-    (λ x. omega (arith, (judged c).before.before.before.before.before.before.shared-slice-known.given x)) p in
+    (λ x. omega (arith, c.shared_slice_known-1.given x)) p in
     record { scanned = scanned good p.clear; long = sym (mapped_size a.map.now a.text.now) }
 
--- the entry that is tested
-count : (c : tie.After-enum-told) → let s = entry (judged c) in
-    get_or s.args.counts.now (length s.args.text.now) 0 ≡ count_at (found c).X (text s) (length (text s))
-count c = let w = whole c in whole_count w ∙ ap (count_at (found c).X (text (entry (judged c)))) w.long
+-- the that is tested
+count : (c : tie.In-Passed) → get_or c.args.counts.now (length c.args.text.now) 0 ≡ count_at (found c).X (text c) (length (text c))
+count c = let w = whole c in whole_count w ∙ ap (count_at (found c).X (text c.before.before.before.before.before.before.before.before)) w.long
 
 -- what it decides
-decides : (c : tie.After-enum-told) (b : Bool) → let s = entry (judged c) in
-    eqb (count_at (found c).X (text s) (length (text s))) most_counted ≡ b
-    → passed (if b then 22 else 0) ≡ verdict (λ X. columns s X and_then greatest s X) (words s)
+decides : (c : tie.In-Passed) (b : Bool) → eqb (count_at (found c).X (text c) (length (text c))) most_counted ≡ b
+    → passed (if b then 22 else 0) ≡ verdict (λ X. columns c X and_then greatest c X) (words c)
 decides c b e =
-    let s = entry (judged c) in
-    then_test (columns s) (greatest s) (words s) (found c) (ap (λ (q : Bool). if q then 22 else 0) e)
+    then_test (columns c.before.before.before.before.before.before.before.before) (greatest c.before.before.before.before.before.before.before.before) (words c.before.before.before.before.before.before.before.before) (found c) (ap (λ (q : Bool). if q then 22 else 0) e)
 
-judge-list-requires : tie.Need-judge-list-requires
-judge-list-requires c κs = search rules
+judge_list-requires : tie.Need-judge_list-requires
+judge_list-requires c κs = search rules
 
-enum-known-number : tie.Need-enum-known-number
-enum-known-number c = search rules
+enum_known-number : tie.Need-enum_known-number
+enum_known-number c = search rules
 
-enum_told : tie.Need-enum-told
-enum_told c = search rules
+enum_told-1 : tie.Need-enum_told-1
+enum_told-1 c = search rules
 
-mul-if1 : tie.Need-overflow-mul-if1
-mul-if1 c = omega (arith, whole_inside (whole c), (entry (judged c)).well-formed)
+offset_bounds-counts-text : tie.Need-offset_bounds-counts-text
+offset_bounds-counts-text c = omega (arith, whole_inside (whole c), c.well_formed)
 
-shared-slice-read-if1 : tie.Need-shared-slice-read-if1
-shared-slice-read-if1 c = whole_inside (whole c.before)
+bounds-counts-text : tie.Need-bounds-counts-text
+bounds-counts-text c = whole_inside (whole c.before)
 
-returns : tie.Need-returns
-returns c = let d = c.before.before in decides d true (eq-eqb _ _ (sym (count d) ∙ c.if1.true))
+returns-then-counts-text : tie.Need-returns-then-counts-text
+returns-then-counts-text c = decides c.before.before true (eq-eqb _ _ (sym (count c.before.before) ∙ c.if-counts-text.true))
 
-returns_2 : tie.Need-returns-2
-returns_2 c =
-    let d = c.before.before.before in
-    let s = entry d in
-    refused_before (columns s) (greatest s) (words s) (sym c.before.number.given.1 ∙ d.judge-list.ensures)
+returns-in-Refused : tie.Need-returns-in-Refused
+returns-in-Refused c =
+    refused_before (columns c.before.before.before.before.before.before.before.before) (greatest c.before.before.before.before.before.before.before.before) (words c.before.before.before.before.before.before.before.before) (sym c.in-Refused.is ∙ c.judge_list.ensures)
 
-returns-3 : tie.Need-returns-3
-returns-3 c = let d = c.before.before in decides d false (ne_eqb _ _ (λ e. c.if1.false (count d ∙ e)))
+returns-else-counts-text : tie.Need-returns-else-counts-text
+returns-else-counts-text c = decides c.before.before false (ne_eqb _ _ (λ e. c.if-counts-text.false (count c.before.before ∙ e)))
 
-pub judge-count-spec : {M : Type 1} → statement M
-judge-count-spec =
+pub judge_count_spec : {M : Type 1} → statement M
+judge_count_spec =
     tie.close
     (tie.spec
-    judge-list-requires
-    enum-known-number
-    enum_told
-    mul-if1
-    shared-slice-read-if1
-    returns
-    returns_2
-    returns-3)
+    judge_list-requires
+    enum_known-number
+    enum_told-1
+    offset_bounds-counts-text
+    bounds-counts-text
+    returns-then-counts-text
+    returns-in-Refused
+    returns-else-counts-text)

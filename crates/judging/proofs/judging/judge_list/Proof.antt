@@ -17,9 +17,6 @@ use Rattle.judging.proofs.Cleared.{room}
 use Rattle.judging.proofs.judging.judge_list.Statement.{statement}
 use Rattle.judging.proofs.judging.judge_list.Tie as tie
 
-abbrev entry : tie.After-judge-scan → tie.Start
-entry c = c.before.before.before.before.before.before.before
-
 abbrev text : tie.Start → Word
 text s = mapped s.args.map.now s.args.text.now
 
@@ -41,67 +38,57 @@ columns s X = columns_refusal X (text s) (ss s) (cs s)
 abbrev words : tie.Start → Run
 words s = words_under s.args.map.now s.args.dict.now
 
-abbrev judged : tie.After-enum-told → tie.After-judge-scan
-judged c = c.before.before
-
-found : (c : tie.After-enum-told) → let s = entry (judged c) in Passes (sizes s) (words s)
+found : (c : tie.In-Passed) → Passes (sizes c) (words c)
 found c =
-    let s = entry (judged c) in
-    passes (sizes s) (words s) (sym c.enum_told.given.1 ∙ (judged c).judge-scan.ensures)
+    passes (sizes c.before.before.before.before.before.before.before.before) (words c.before.before.before.before.before.before.before.before) (sym c.in-Passed.is ∙ c.judge_scan.ensures)
 
-fits : (c : tie.After-enum-told) → let s = entry (judged c) in Room (found c).X (text s) (tb s) (ss s) (cs s)
+fits : (c : tie.In-Passed) → Room (found c).X (text c) (tb c) (ss c) (cs c)
 fits c =
-    let a = (entry (judged c)).args in
+    let a = c.args in
     let p = found c in
     room
     (passed_allowed a.map.now a.dict.now
-    (λ x. omega (arith, (judged c).before.before.before.before.before.before.shared-slice-known.given x)) p)
+    (λ x. omega (arith, c.shared_slice_known-1.given x)) p)
     p.clear
 
 -- what the columns decide
-decides : (c : tie.After-are-columns) (b : Bool) → let s = entry (judged c.before) in
-    b ≡ are_columns (found c.before).X (text s) (ss s) (cs s)
-    → passed (if b then 0 else 11) ≡ verdict (λ X. sizes s X and_then columns s X) (words s)
+decides : (c : tie.After-are_columns) (b : Bool) → b ≡ are_columns (found c.before).X (text c) (ss c) (cs c)
+    → passed (if b then 0 else 11) ≡ verdict (λ X. sizes c X and_then columns c X) (words c)
 decides c b e =
-    let s = entry (judged c.before) in
-    then_test (sizes s) (columns s) (words s) (found c.before) (ap (λ (q : Bool). if q then 0 else 11) (sym e))
+    then_test (sizes c.before.before.before.before.before.before.before.before.before) (columns c.before.before.before.before.before.before.before.before.before) (words c.before.before.before.before.before.before.before.before.before) (found c.before) (ap (λ (q : Bool). if q then 0 else 11) (sym e))
 
-judge-scan-requires : tie.Need-judge-scan-requires
-judge-scan-requires c κs = search rules
+judge_scan-requires : tie.Need-judge_scan-requires
+judge_scan-requires c κs = search rules
 
-enum-known-number : tie.Need-enum-known-number
-enum-known-number c = search rules
+enum_known-number : tie.Need-enum_known-number
+enum_known-number c = search rules
 
-enum_told : tie.Need-enum-told
-enum_told c = search rules
+enum_told-1 : tie.Need-enum_told-1
+enum_told-1 c = search rules
 
-are-columns-requires : tie.Need-are-columns-requires
-are-columns-requires c κs = ((found c).X, fits c)
+are_columns-requires : tie.Need-are_columns-requires
+are_columns-requires c κs = ((found c).X, fits c)
 
-returns : tie.Need-returns
-returns c =
-    let d = c.before in
-    decides d true (sym c.if1.true ∙ d.are-columns.ensures _ (fits d.before))
+returns-then-are_columns : tie.Need-returns-then-are_columns
+returns-then-are_columns c =
+    decides c.before true (sym c.if-are_columns.true ∙ c.are_columns.ensures _ (fits c.before.before))
 
-returns_2 : tie.Need-returns-2
-returns_2 c =
-    let d = c.before.before.before in
-    let s = entry d in
-    refused_before (sizes s) (columns s) (words s) (sym c.before.number.given.1 ∙ d.judge-scan.ensures)
+returns-in-Refused : tie.Need-returns-in-Refused
+returns-in-Refused c =
+    refused_before (sizes c.before.before.before.before.before.before.before.before) (columns c.before.before.before.before.before.before.before.before) (words c.before.before.before.before.before.before.before.before) (sym c.in-Refused.is ∙ c.judge_scan.ensures)
 
-returns-3 : tie.Need-returns-3
-returns-3 c =
-    let d = c.before in
-    decides d false (sym c.if1.false ∙ d.are-columns.ensures _ (fits d.before))
+returns-else-are_columns : tie.Need-returns-else-are_columns
+returns-else-are_columns c =
+    decides c.before false (sym c.if-are_columns.false ∙ c.are_columns.ensures _ (fits c.before.before))
 
-pub judge-list-spec : {M : Type 1} → statement M
-judge-list-spec =
+pub judge_list_spec : {M : Type 1} → statement M
+judge_list_spec =
     tie.close
     (tie.spec
-    judge-scan-requires
-    enum-known-number
-    enum_told
-    are-columns-requires
-    returns
-    returns_2
-    returns-3)
+    judge_scan-requires
+    enum_known-number
+    enum_told-1
+    are_columns-requires
+    returns-then-are_columns
+    returns-in-Refused
+    returns-else-are_columns)

@@ -15,97 +15,81 @@ use Rattle.judging.proofs.Verdicts.{told_accepted}
 use Rattle.judging.proofs.judging.judge_rows.Statement.{statement}
 use Rattle.judging.proofs.judging.judge_rows.Tie as tie
 
-abbrev entry : tie.After-check-words → tie.Start
-entry c = c.before.before.before.before
+found : (c : tie.In-Words)
+    → let a = c.args in
+    RanAs (words_under a.map.now a.dict.now) c.in-Words.words c.in-Words.letters c.in-Words.end
+found c = told_ran _ (ap dictionary_told (sym c.in-Words.is) ∙ c.check_words.ensures)
 
--- the words that were found
-abbrev checked : tie.After-known-told2 → tie.After-check-words
-checked c = c.before.before.before
+abbrev accepted : tie.In-Words → Type 0
+accepted c = let a = c.args in Accepted (found c).X a.map.now a.dict.now c.in-Words.words
 
-found : (c : tie.After-known-told2)
-    → let a = (entry (checked c)).args in
-    let g = c.before.words.given.0 in
-    RanAs (words_under a.map.now a.dict.now) g.0 g.1.0 g.1.1.0
-found c = told_ran _ (ap dictionary_told (sym c.before.words.given.1) ∙ (checked c).check-words.ensures)
+good : (c : tie.In-Words) → accepted c
+good c = told_accepted (λ x. omega (arith, c.shared_slice_known-1.given x)) (found c)
 
-abbrev accepted : tie.After-known-told2 → Type 0
-accepted c = let a = (entry (checked c)).args in Accepted (found c).X a.map.now a.dict.now c.before.words.given.0.0
-
-good : (c : tie.After-known-told2) → accepted c
-good c = told_accepted (λ x. omega (arith, (checked c).before.before.before.shared-slice-known.given x)) (found c)
-
--- by what the rows' check told
-abbrev rows : tie.After-judge-table → tie.After-known-told2
-rows c = c.before
-
-judges : (c : tie.After-judge-table) (j : Judged) → let a = (entry (checked (rows c))).args in
-    j ≡ judged (table_in a.form (found (rows c)).X) a.table.now
+judges : (c : tie.After-judge_table) (j : Judged) → let a = c.args in
+    j ≡ judged (table_in a.form (found c.before).X) a.table.now
     → passed (rows_number j) ≡ verdict (λ X. table_refusal (table_in a.form X) a.table.now) (words_under a.map.now a.dict.now)
 judges c j e =
-    let a = (entry (checked (rows c))).args in
+    let a = c.args in
     ap (λ (k : Judged). passed (rows_number k)) e
-    ∙ ap (verdict (λ X. table_refusal (table_in a.form X) a.table.now)) (sym (found (rows c)).is)
+    ∙ ap (verdict (λ X. table_refusal (table_in a.form X) a.table.now)) (sym (found c.before).is)
 
-check-words-requires : tie.Need-check-words-requires
-check-words-requires c κs = search rules
+check_words-requires : tie.Need-check_words-requires
+check_words-requires c κs = search rules
 
-enum-known-number : tie.Need-enum-known-number
-enum-known-number c = search rules
+enum_known-number : tie.Need-enum_known-number
+enum_known-number c = search rules
 
-enum-known-words : tie.Need-enum-known-words
-enum-known-words c = search rules
+enum_known-words : tie.Need-enum_known-words
+enum_known-words c = search rules
 
-cast-judge-table : tie.Need-overflow-cast-judge-table
-cast-judge-table c = search rules
+overflow_cast-words : tie.Need-overflow_cast-words
+overflow_cast-words c = search rules
 
-judge-table-requires : tie.Need-judge-table-requires
-judge-table-requires c κs =
+judge_table-requires : tie.Need-judge_table-requires
+judge_table-requires c κs =
     ((found c).X, good c)
 
-enum_told : tie.Need-enum-told
-enum_told c = search rules
+enum_told-1 : tie.Need-enum_told-1
+enum_told-1 c = search rules
 
-enum-told-2 : tie.Need-enum-told-2
-enum-told-2 c = search rules
+enum_told-in-Other : tie.Need-enum_told-in-Other
+enum_told-in-Other c = search rules
 
-enum-told-3 : tie.Need-enum-told-3
-enum-told-3 c = search rules
+enum_told-in-Right : tie.Need-enum_told-in-Right
+enum_told-in-Right c = search rules
 
-returns : tie.Need-returns
-returns c =
-    let d = c.before.before.before in
-    let a = (entry d).args in
+returns-in-Refused : tie.Need-returns-in-Refused
+returns-in-Refused c =
+    let a = c.args in
     ap (verdict (λ X. table_refusal (table_in a.form X) a.table.now))
-    (sym (told_refused (words_under a.map.now a.dict.now) (ap dictionary_told (sym c.before.number.given.1) ∙ d.check-words.ensures)))
+    (sym (told_refused (words_under a.map.now a.dict.now) (ap dictionary_told (sym c.in-Refused.is) ∙ c.check_words.ensures)))
 
-returns_2 : tie.Need-returns-2
-returns_2 c =
-    let d = c.before.before in
-    judges d _ (sym c.enum_told.given.1 ∙ d.judge-table.ensures _ (good (rows d)))
+returns-in-Short : tie.Need-returns-in-Short
+returns-in-Short c =
+    judges c.before _ (sym c.in-Short.is ∙ c.judge_table.ensures _ (good c.before.before))
 
-returns-3 : tie.Need-returns-3
-returns-3 c =
-    let d = c.before.before in
-    judges d _ (sym c.enum-told2.given.1 ∙ d.judge-table.ensures _ (good (rows d)))
+returns-in-Other : tie.Need-returns-in-Other
+returns-in-Other c =
+    judges c.before _ (sym c.in-Other.is ∙ c.judge_table.ensures _ (good c.before.before))
 
-returns-4 : tie.Need-returns-4
-returns-4 c =
-    let d = c.before.before in
-    judges d _ (sym c.enum-told3.given.1 ∙ d.judge-table.ensures _ (good (rows d)))
+returns-in-Right : tie.Need-returns-in-Right
+returns-in-Right c =
+    judges c.before _ (sym c.in-Right.is ∙ c.judge_table.ensures _ (good c.before.before))
 
-pub judge-rows-spec : {M : Type 1} → statement M
-judge-rows-spec =
+pub judge_rows_spec : {M : Type 1} → statement M
+judge_rows_spec =
     tie.close
     (tie.spec
-    check-words-requires
-    enum-known-number
-    enum-known-words
-    cast-judge-table
-    judge-table-requires
-    enum_told
-    enum-told-2
-    enum-told-3
-    returns
-    returns_2
-    returns-3
-    returns-4)
+    check_words-requires
+    enum_known-number
+    enum_known-words
+    overflow_cast-words
+    judge_table-requires
+    enum_told-1
+    enum_told-in-Other
+    enum_told-in-Right
+    returns-in-Refused
+    returns-in-Short
+    returns-in-Other
+    returns-in-Right)

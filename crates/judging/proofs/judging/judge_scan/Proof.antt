@@ -17,9 +17,6 @@ use Rattle.judging.proofs.Verdicts.{passes, refused_before, then_test, long_text
 use Rattle.judging.proofs.judging.judge_scan.Statement.{statement}
 use Rattle.judging.proofs.judging.judge_scan.Tie as tie
 
-abbrev entry : tie.After-judge-rows → tie.Start
-entry c = c.before.before.before.before.before.before.before
-
 abbrev rows : tie.Start → Words → ℕ
 rows s X = table_refusal (table X) s.args.table.now
 
@@ -38,78 +35,63 @@ cs s = s.args.counts.now
 abbrev sizes : tie.Start → ℕ
 sizes s = text_refusal (text s) and_then room_refusal (text s) (ss s) (cs s)
 
-abbrev judged : tie.After-enum-told → tie.After-judge-rows
-judged c = c.before.before
-
 -- what the sizes decide
-decides : (c : tie.After-enum-told) {n : ℕ} → let s = entry (judged c) in sizes s ≡ n
-    → passed n ≡ verdict (λ X. rows s X and_then sizes s) (words s)
+decides : (c : tie.In-Passed) {n : ℕ} → sizes c ≡ n
+    → passed n ≡ verdict (λ X. rows c X and_then sizes c) (words c)
 decides c e =
-    let s = entry (judged c) in
-    then_test (rows s) (λ X. sizes s) (words s)
-    (passes (rows s) (words s) (sym c.enum_told.given.1 ∙ (judged c).judge-rows.ensures)) e
+    then_test (rows c.before.before.before.before.before.before.before.before) (λ X. sizes c.before.before.before.before.before.before.before.before) (words c.before.before.before.before.before.before.before.before)
+    (passes (rows c.before.before.before.before.before.before.before.before) (words c.before.before.before.before.before.before.before.before) (sym c.in-Passed.is ∙ c.judge_rows.ensures)) e
 
 -- how long the text is
 size : (s : tie.Start) → length (text s) ≡ length s.args.text.now
 size s = mapped_size s.args.map.now s.args.text.now
 
-judge-rows-requires : tie.Need-judge-rows-requires
-judge-rows-requires c κs = search rules
+judge_rows-requires : tie.Need-judge_rows-requires
+judge_rows-requires c κs = search rules
 
-enum-known-number : tie.Need-enum-known-number
-enum-known-number c = search rules
+enum_known-number : tie.Need-enum_known-number
+enum_known-number c = search rules
 
-enum_told : tie.Need-enum-told
-enum_told c = search rules
+enum_told-1 : tie.Need-enum_told-1
+enum_told-1 c = search rules
 
-returns : tie.Need-returns
-returns c =
-    let s = entry (judged c.before) in
-    decides c.before (long_text (text s) (ss s) (cs s) (omega (arith, c.if1.true, size s)))
+returns-then-text-gt-LONGEST_TEXT : tie.Need-returns-then-text-gt-LONGEST_TEXT
+returns-then-text-gt-LONGEST_TEXT c =
+    decides c.before (long_text (text c.before.before.before.before.before.before.before.before.before) (ss c.before.before.before.before.before.before.before.before.before) (cs c.before.before.before.before.before.before.before.before.before) (omega (arith, c.if-text-gt-LONGEST_TEXT.true, size c.before.before.before.before.before.before.before.before.before)))
 
-returns_2 : tie.Need-returns-2
-returns_2 c =
-    let d = c.before in
-    let s = entry (judged d.before) in
-    decides d.before (short_states (text s) (ss s) (cs s) (omega (arith, d.if1.false, size s)) (omega (arith, c.if2.true, size s)))
+returns-then-states-text : tie.Need-returns-then-states-text
+returns-then-states-text c =
+    decides c.before.before (short_states (text c.before.before.before.before.before.before.before.before.before.before) (ss c.before.before.before.before.before.before.before.before.before.before) (cs c.before.before.before.before.before.before.before.before.before.before) (omega (arith, c.if-text-gt-LONGEST_TEXT.false, size c.before.before.before.before.before.before.before.before.before.before)) (omega (arith, c.if-states-text.true, size c.before.before.before.before.before.before.before.before.before.before)))
 
-returns-3 : tie.Need-returns-3
-returns-3 c =
-    let e = c.before in
-    let d = e.before in
-    let s = entry (judged d.before) in
-    decides d.before
-    (short_counts (text s) (ss s) (cs s)
-    (omega (arith, d.if1.false, size s))
-    (omega (arith, e.if2.false, size s))
-    (omega (arith, c.if3.true, size s)))
+returns-then-counts-text : tie.Need-returns-then-counts-text
+returns-then-counts-text c =
+    decides c.before.before.before
+    (short_counts (text c.before.before.before.before.before.before.before.before.before.before.before) (ss c.before.before.before.before.before.before.before.before.before.before.before) (cs c.before.before.before.before.before.before.before.before.before.before.before)
+    (omega (arith, c.if-text-gt-LONGEST_TEXT.false, size c.before.before.before.before.before.before.before.before.before.before.before))
+    (omega (arith, c.if-states-text.false, size c.before.before.before.before.before.before.before.before.before.before.before))
+    (omega (arith, c.if-counts-text.true, size c.before.before.before.before.before.before.before.before.before.before.before)))
 
-returns-4 : tie.Need-returns-4
-returns-4 c =
-    let d = c.before.before.before in
-    let s = entry d in
-    refused_before (rows s) (λ X. sizes s) (words s) (sym c.before.number.given.1 ∙ d.judge-rows.ensures)
+returns-in-Refused : tie.Need-returns-in-Refused
+returns-in-Refused c =
+    refused_before (rows c.before.before.before.before.before.before.before.before) (λ X. sizes c.before.before.before.before.before.before.before.before) (words c.before.before.before.before.before.before.before.before) (sym c.in-Refused.is ∙ c.judge_rows.ensures)
 
-returns-5 : tie.Need-returns-5
-returns-5 c =
-    let e = c.before in
-    let d = e.before in
-    let s = entry (judged d.before) in
-    decides d.before
-    (sizes_fit (text s) (ss s) (cs s)
-    (omega (arith, d.if1.false, size s))
-    (omega (arith, e.if2.false, size s))
-    (omega (arith, c.if3.false, size s)))
+returns-else-counts-text : tie.Need-returns-else-counts-text
+returns-else-counts-text c =
+    decides c.before.before.before
+    (sizes_fit (text c.before.before.before.before.before.before.before.before.before.before.before) (ss c.before.before.before.before.before.before.before.before.before.before.before) (cs c.before.before.before.before.before.before.before.before.before.before.before)
+    (omega (arith, c.if-text-gt-LONGEST_TEXT.false, size c.before.before.before.before.before.before.before.before.before.before.before))
+    (omega (arith, c.if-states-text.false, size c.before.before.before.before.before.before.before.before.before.before.before))
+    (omega (arith, c.if-counts-text.false, size c.before.before.before.before.before.before.before.before.before.before.before)))
 
-pub judge-scan-spec : {M : Type 1} → statement M
-judge-scan-spec =
+pub judge_scan_spec : {M : Type 1} → statement M
+judge_scan_spec =
     tie.close
     (tie.spec
-    judge-rows-requires
-    enum-known-number
-    enum_told
-    returns
-    returns_2
-    returns-3
-    returns-4
-    returns-5)
+    judge_rows-requires
+    enum_known-number
+    enum_told-1
+    returns-then-text-gt-LONGEST_TEXT
+    returns-then-states-text
+    returns-then-counts-text
+    returns-in-Refused
+    returns-else-counts-text)

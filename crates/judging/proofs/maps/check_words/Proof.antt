@@ -7,28 +7,22 @@ use Rattle.judging.proofs.Under.{map_first, words_lent}
 use Rattle.judging.proofs.maps.check_words.Statement.{statement}
 use Rattle.judging.proofs.maps.check_words.Tie as tie
 
-abbrev begun : tie.After-is-map → tie.Start
-begun c = c.before.before.before
+is_map-requires : tie.Need-is_map-requires
+is_map-requires c κs = search rules
 
-is-map-requires : tie.Need-is-map-requires
-is-map-requires c κs = search rules
+returns-then-not-is_map : tie.Need-returns-then-not-is_map
+returns-then-not-is_map c =
+    let a = c.args in
+    sym (ap run_tells (map_first a.map.now a.dict.now (sym c.is_map.ensures ∙ not-true _ c.if-not-is_map.true-raw)))
+
+check_dictionary-requires : tie.Need-check_dictionary-requires
+check_dictionary-requires c κs = search rules
 
 returns : tie.Need-returns
 returns c =
-    let d = c.before in
-    let a = (begun d).args in
-    sym (ap run_tells (map_first a.map.now a.dict.now (sym d.is-map.ensures ∙ not-true _ c.if1.true)))
+    let a = c.args in
+    c.check_dictionary.ensures
+    ∙ sym (ap run_tells (words_lent a.map.now a.dict.now (sym c.is_map.ensures ∙ not-false _ c.if-not-is_map.false-raw)))
 
-check-dictionary-requires : tie.Need-check-dictionary-requires
-check-dictionary-requires c κs = search rules
-
-returns_2 : tie.Need-returns-2
-returns_2 c =
-    let e = c.before in
-    let d = e.before in
-    let a = (begun d).args in
-    c.check-dictionary.ensures
-    ∙ sym (ap run_tells (words_lent a.map.now a.dict.now (sym d.is-map.ensures ∙ not-false _ e.if1.false)))
-
-pub check-words-spec : {M : Type 1} → statement M
-check-words-spec = tie.close (tie.spec is-map-requires returns check-dictionary-requires returns_2)
+pub check_words_spec : {M : Type 1} → statement M
+check_words_spec = tie.close (tie.spec is_map-requires returns-then-not-is_map check_dictionary-requires returns)

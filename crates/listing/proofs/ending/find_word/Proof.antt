@@ -14,65 +14,61 @@ record Seeking (X : Words) (tb : List ℕ) (v n u : ℕ) : Type 0 where
   walking : Walking X tb u
   same : sought n (words_at X v) ≡ sought n (words_at X u)
 
-abbrev invariant_loop : tie.invariant_loop
-invariant_loop table v n u₀ u = (X : Words) → Walking X table v → Seeking X table v n u
+abbrev invariant-loop-u : tie.invariant-loop-u
+invariant-loop-u table v n u₀ u = (X : Words) → Walking X table v → Seeking X table v n u
 
-abbrev decreases_loop : tie.decreases_loop
-decreases_loop table v n u₀ u = letters_left table u
+abbrev decreases-loop-u : tie.decreases-loop-u
+decreases-loop-u table v n u₀ u = letters_left table u
 
-loop_holds : tie.Need-loop-init invariant_loop decreases_loop
-loop_holds c X ω = record { walking = ω; same = refl }
+loop-u-init : tie.Need-loop-u-init invariant-loop-u decreases-loop-u
+loop-u-init c X ω = record { walking = ω; same = refl }
 
-word-requires : tie.Need-word-requires invariant_loop decreases_loop
+word-requires : tie.Need-word-requires invariant-loop-u decreases-loop-u
 word-requires c κs =
-    let ω = (c.before.loop.invariant _ c.before.before.before.requires.1).walking in
-    word_row ω.table (walking_word ω c.loop-test.true)
+    let ω = (c.loop-u.invariant _ c.requires.1).walking in
+    word_row ω.table (walking_word ω c.loop-u-test.true)
 
-returns : tie.Need-returns invariant_loop decreases_loop
-returns c X ω =
-    let turn = c.before.before in
-    let s = turn.before.loop.invariant X ω in
-    let w = walking_word s.walking turn.loop-test.true in
-    rw (s.same ∙ seek_here s.walking w c.before.word.ensures.is c.if1.true) w
+returns-then-word-n : tie.Need-returns-then-word-n invariant-loop-u decreases-loop-u
+returns-then-word-n c X ω =
+    let s = c.loop-u.invariant X ω in
+    let w = walking_word s.walking c.loop-u-test.true in
+    rw (s.same ∙ seek_here s.walking w c.word.ensures.is c.if-word-n.true) w
 
-link-requires : tie.Need-link-requires invariant_loop decreases_loop
-link-requires c κs =
-    let turn = c.before.before in
-    let ω = (turn.before.loop.invariant _ turn.before.before.before.requires.1).walking in
-    word_row ω.table (walking_word ω turn.loop-test.true)
+link-u-requires : tie.Need-link-u-requires invariant-loop-u decreases-loop-u
+link-u-requires c κs =
+    let ω = (c.loop-u.invariant _ c.requires.1).walking in
+    word_row ω.table (walking_word ω c.loop-u-test.true)
 
-loop_less : tie.Need-loop-smaller invariant_loop decreases_loop
-loop_less c =
-    let turn = c.before.before.before in
-    let ω = (turn.before.loop.invariant _ turn.before.before.before.requires.1).walking in
-    (word_next ω.table (walking_word ω turn.loop-test.true) c.link.ensures.is).less
+loop-u-smaller : tie.Need-loop-u-smaller invariant-loop-u decreases-loop-u
+loop-u-smaller c =
+    let ω = (c.loop-u.invariant _ c.requires.1).walking in
+    (word_next ω.table (walking_word ω c.loop-u-test.true) c.link-u.ensures.is).less
 
-loop_again : tie.Need-loop-preserved invariant_loop decreases_loop
-loop_again c X ω =
-    let turn = c.before.before.before in
-    let s = turn.before.loop.invariant X ω in
-    let w = walking_word s.walking turn.loop-test.true in
-    let e = c.link.ensures.is in
+loop-u-preserved : tie.Need-loop-u-preserved invariant-loop-u decreases-loop-u
+loop-u-preserved c X ω =
+    let s = c.loop-u.invariant X ω in
+    let w = walking_word s.walking c.loop-u-test.true in
+    let e = c.link-u.ensures.is in
     record {
       walking = walking_on s.walking w e;
-      same = s.same ∙ seek_past s.walking w c.before.before.word.ensures.is c.before.if1.false e;
+      same = s.same ∙ seek_past s.walking w c.word.ensures.is c.if-word-n.false e;
     }
 
-returns_2 : tie.Need-returns-2 invariant_loop decreases_loop
-returns_2 c X ω =
-    let s = c.before.loop.invariant X ω in
-    rw (s.same, no_words s.walking.table c.loop-test.false) refl
+returns : tie.Need-returns invariant-loop-u decreases-loop-u
+returns c X ω =
+    let s = c.loop-u.invariant X ω in
+    rw (s.same, no_words s.walking.table c.loop-u-test.false) refl
 
-pub find-word-spec : {M : Type 1} → statement M
-find-word-spec =
+pub find_word_spec : {M : Type 1} → statement M
+find_word_spec =
     tie.close
     (tie.spec
-    invariant_loop
-    decreases_loop
-    loop_holds
+    invariant-loop-u
+    decreases-loop-u
+    loop-u-init
     word-requires
-    returns
-    link-requires
-    loop_less
-    loop_again
-    returns_2)
+    returns-then-word-n
+    link-u-requires
+    loop-u-smaller
+    loop-u-preserved
+    returns)

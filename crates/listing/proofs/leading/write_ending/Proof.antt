@@ -8,40 +8,40 @@ use Rattle.listing.proofs.Writes.{written_more}
 use Rattle.listing.proofs.leading.write_ending.Statement.{statement}
 use Rattle.listing.proofs.leading.write_ending.Tie as tie
 
-write-first-requires : tie.Need-write-first-requires
-write-first-requires c κs =
-    let pre = c.before.before.before.before.before.requires.0 in
+write_first-n-requires : tie.Need-write_first-n-requires
+write_first-n-requires c κs =
+    let pre = c.requires.0 in
     (pre.0, pre.1, record { readable = pre.2.readable; room = omega (arith, pre.2.room) })
 
-cast-reading : tie.Need-overflow-cast-reading
-cast-reading c = search rules
+overflow_cast-reading : tie.Need-overflow_cast-reading
+overflow_cast-reading c = search rules
 
 -- there is room for it
-fits : (c : tie.After-write-first)
-    → c.write-first.result < length c.before.before.before.before.before.before.args.reading.now
+fits : (c : tie.After-write_first-n)
+    → c.write_first-n.result < length c.args.reading.now
 fits c =
-    let φ = c.before.before.before.before.before.before.requires.0.2 in
-    omega (arith, (c.write-first.ensures _ _ φ.readable).count, φ.room)
+    let φ = c.requires.0.2 in
+    omega (arith, (c.write_first-n.ensures _ _ φ.readable).count, φ.room)
 
-mul-reading : tie.Need-overflow-mul-reading
-mul-reading c = omega (arith, fits c.before.before, c.before.before.before.before.before.before.before.before.well-formed)
+offset_bounds-reading-n : tie.Need-offset_bounds-reading-n
+offset_bounds-reading-n c = omega (arith, fits c.before.before, c.well_formed)
 
-slice-write-reading : tie.Need-slice-write-reading
-slice-write-reading c = omega (arith, fits c.before.before, c.before.before.write-first.auto)
+bounds-reading-n : tie.Need-bounds-reading-n
+bounds-reading-n c = omega (arith, fits c.before.before, c.write_first-n.auto)
 
-same_length : tie.Need-same-length
-same_length c = search rules
+shape_of-reading : tie.Need-shape_of-reading
+shape_of-reading c = search rules
 
 returns : tie.Need-returns
-returns c X t ρ = (written_more (c.before.before.write-first.ensures X t ρ) refl (fits c.before.before) refl).list
+returns c X t ρ = (written_more (c.write_first-n.ensures X t ρ) refl (fits c.before.before) refl).list
 
-pub write-ending-spec : {M : Type 1} → statement M
-write-ending-spec =
+pub write_ending_spec : {M : Type 1} → statement M
+write_ending_spec =
     tie.close
     (tie.spec
-    write-first-requires
-    cast-reading
-    mul-reading
-    slice-write-reading
-    same_length
+    write_first-n-requires
+    overflow_cast-reading
+    offset_bounds-reading-n
+    bounds-reading-n
+    shape_of-reading
     returns)

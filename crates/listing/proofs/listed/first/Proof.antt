@@ -5,52 +5,51 @@ use Rattle.listing.proofs.Told.{answers_nothing, answers_short, answers_words, w
 use Rattle.listing.proofs.listed.first.Statement.{statement}
 use Rattle.listing.proofs.listed.first.Tie as tie
 
-mul-if1 : tie.Need-overflow-mul-if1
-mul-if1 c = let start = c.before.before.before.before in omega (arith, whole_inside start.requires.2, start.well-formed)
+offset_bounds-counts-m : tie.Need-offset_bounds-counts-m
+offset_bounds-counts-m c = omega (arith, whole_inside c.requires.2, c.well_formed)
 
-shared-slice-read-if1 : tie.Need-shared-slice-read-if1
-shared-slice-read-if1 c = whole_inside c.before.before.before.before.before.requires.2
+bounds-counts-m : tie.Need-bounds-counts-m
+bounds-counts-m c = whole_inside c.requires.2
+
+returns-then-counts-m-eq0 : tie.Need-returns-then-counts-m-eq0
+returns-then-counts-m-eq0 c X t ω = answers_nothing _ (whole_none ω c.if-counts-m-eq0.true)
+
+first_length-n-requires : tie.Need-first_length-n-requires
+first_length-n-requires c κs =
+    let pre = c.requires in
+    (pre.0, pre.1, whole_readable pre.2 c.if-counts-m-eq0.false)
+
+returns-then-reading-n : tie.Need-returns-then-reading-n
+returns-then-reading-n c X t ω =
+    let f = c.if-counts-m-eq0.false in
+    answers_short _ _ (whole_first ω f) (omega (arith, c.if-reading-n.true, c.first_length-n.ensures X t (whole_readable ω f)))
+
+write_first-requires : tie.Need-write_first-requires
+write_first-requires c κs =
+    let pre = c.requires in
+    let ρ = whole_readable pre.2 c.if-counts-m-eq0.false in
+    (pre.0, pre.1, record { readable = ρ; room = omega (arith, c.if-reading-n.false, c.first_length-n.ensures _ _ ρ) })
+
+shape_of-reading : tie.Need-shape_of-reading
+shape_of-reading c = search rules
 
 returns : tie.Need-returns
-returns c X t ω = answers_nothing _ (whole_none ω c.if1.true)
-
-first-length-requires : tie.Need-first-length-requires
-first-length-requires c κs =
-    let pre = c.before.before.before.before.before.before.requires in
-    (pre.0, pre.1, whole_readable pre.2 c.if1.false)
-
-returns_2 : tie.Need-returns-2
-returns_2 c X t ω =
-    let f = c.before.before.if1.false in
-    answers_short _ _ (whole_first ω f) (omega (arith, c.if2.true, c.before.first-length.ensures X t (whole_readable ω f)))
-
-write-first-requires : tie.Need-write-first-requires
-write-first-requires c κs =
-    let pre = c.before.before.before.before.before.before.before.before.before.requires in
-    let ρ = whole_readable pre.2 c.before.before.before.if1.false in
-    (pre.0, pre.1, record { readable = ρ; room = omega (arith, c.before.if2.false, c.before.before.first-length.ensures _ _ ρ) })
-
-same_length : tie.Need-same-length
-same_length c = search rules
-
-returns-3 : tie.Need-returns-3
-returns-3 c X t ω =
-    let at = c.before.before.before.before in
-    let f = at.before.before.if1.false in
+returns c X t ω =
+    let f = c.if-counts-m-eq0.false in
     let ρ = whole_readable ω f in
-    let e = at.before.first-length.ensures X t ρ in
-    answers_words _ _ (whole_first ω f) (omega (arith, at.if2.false, e))
-    (record { count = e; list = (c.before.before.write-first.ensures X t ρ).list })
+    let e = c.first_length-n.ensures X t ρ in
+    answers_words _ _ (whole_first ω f) (omega (arith, c.if-reading-n.false, e))
+    (record { count = e; list = (c.write_first.ensures X t ρ).list })
 
 pub first_spec : {M : Type 1} → statement M
 first_spec =
     tie.close
     (tie.spec
-    mul-if1
-    shared-slice-read-if1
-    returns
-    first-length-requires
-    returns_2
-    write-first-requires
-    same_length
-    returns-3)
+    offset_bounds-counts-m
+    bounds-counts-m
+    returns-then-counts-m-eq0
+    first_length-n-requires
+    returns-then-reading-n
+    write_first-requires
+    shape_of-reading
+    returns)

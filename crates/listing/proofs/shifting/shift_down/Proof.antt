@@ -5,65 +5,65 @@ use Rattle.listing.proofs.Moves.{Down, down_none, down_long, down_more, down_all
 use Rattle.listing.proofs.shifting.shift_down.Statement.{statement}
 use Rattle.listing.proofs.shifting.shift_down.Tie as tie
 
-abbrev invariant_loop : tie.invariant_loop
-invariant_loop l₀ from to n i₀ l i = Down l₀ l from to n i
+abbrev invariant-loop-i : tie.invariant-loop-i
+invariant-loop-i l₀ from to n i₀ l i = Down l₀ l from to n i
 
-abbrev decreases_loop : tie.decreases_loop
-decreases_loop l₀ from to n i₀ l i = n - i
+abbrev decreases-loop-i : tie.decreases-loop-i
+decreases-loop-i l₀ from to n i₀ l i = n - i
 
-loop_holds : tie.Need-loop-init invariant_loop decreases_loop
-loop_holds c = down_none _ _ _ _
+loop-i-init : tie.Need-loop-i-init invariant-loop-i decreases-loop-i
+loop-i-init c = down_none _ _ _ _
 
-add-l : tie.Need-overflow-add-l invariant_loop decreases_loop
-add-l c = omega (arith, c.before.before.requires, c.before.before.well-formed)
+overflow_add-l : tie.Need-overflow_add-l invariant-loop-i decreases-loop-i
+overflow_add-l c = omega (arith, c.requires, c.well_formed)
 
-mul-l : tie.Need-overflow-mul-l invariant_loop decreases_loop
-mul-l c = omega (arith, c.before.before.requires, c.before.before.well-formed)
+offset_bounds-l-from : tie.Need-offset_bounds-l-from invariant-loop-i decreases-loop-i
+offset_bounds-l-from c = omega (arith, c.requires, c.well_formed)
 
-slice-read-l : tie.Need-slice-read-l invariant_loop decreases_loop
-slice-read-l c = omega (arith, down_long c.before.before.loop.invariant, c.before.before.before.requires)
+bounds-l-from : tie.Need-bounds-l-from invariant-loop-i decreases-loop-i
+bounds-l-from c = omega (arith, down_long c.loop-i.invariant, c.requires)
 
-add-l-2 : tie.Need-overflow-add-l-2 invariant_loop decreases_loop
-add-l-2 c = omega (arith, c.before.before.before.requires, c.before.before.before.well-formed)
+overflow_add-l-in-loop-i : tie.Need-overflow_add-l-in-loop-i invariant-loop-i decreases-loop-i
+overflow_add-l-in-loop-i c = omega (arith, c.requires, c.well_formed)
 
-mul-l-2 : tie.Need-overflow-mul-l-2 invariant_loop decreases_loop
-mul-l-2 c = omega (arith, c.before.before.before.requires, c.before.before.before.well-formed)
+offset_bounds-l-to : tie.Need-offset_bounds-l-to invariant-loop-i decreases-loop-i
+offset_bounds-l-to c = omega (arith, c.requires, c.well_formed)
 
-slice-write-l : tie.Need-slice-write-l invariant_loop decreases_loop
-slice-write-l c = omega (arith, down_long c.before.before.loop.invariant, c.before.before.before.requires)
+bounds-l-to : tie.Need-bounds-l-to invariant-loop-i decreases-loop-i
+bounds-l-to c = omega (arith, down_long c.loop-i.invariant, c.requires)
 
-add-i : tie.Need-overflow-add-i invariant_loop decreases_loop
-add-i c = omega (arith, c.before.before.before.requires, c.before.before.before.well-formed)
+overflow_add-i : tie.Need-overflow_add-i invariant-loop-i decreases-loop-i
+overflow_add-i c = omega (arith, c.requires, c.well_formed)
 
-loop_less : tie.Need-loop-smaller invariant_loop decreases_loop
-loop_less c = omega arith
+loop-i-smaller : tie.Need-loop-i-smaller invariant-loop-i decreases-loop-i
+loop-i-smaller c = omega arith
 
-loop_again : tie.Need-loop-preserved invariant_loop decreases_loop
-loop_again c =
-    let pre = c.before.before.before.requires in
-    down_more c.before.before.loop.invariant pre.1 pre.0 c.before.loop-test.true
+loop-i-preserved : tie.Need-loop-i-preserved invariant-loop-i decreases-loop-i
+loop-i-preserved c =
+    let pre = c.requires in
+    down_more c.loop-i.invariant pre.1 pre.0 c.loop-i-test.true
 
-same_length : tie.Need-same-length invariant_loop decreases_loop
-same_length c = down_long c.before.loop.invariant
+shape_of-l : tie.Need-shape_of-l invariant-loop-i decreases-loop-i
+shape_of-l c = down_long c.loop-i.invariant
 
-returns : tie.Need-returns invariant_loop decreases_loop
-returns c = down_all c.before.loop.invariant c.before.before.requires.1 c.loop-test.false
+returns : tie.Need-returns invariant-loop-i decreases-loop-i
+returns c = down_all c.loop-i.invariant c.requires.1 c.loop-i-test.false
 
-pub shift-down-spec : {M : Type 1} → statement M
-shift-down-spec =
+pub shift_down_spec : {M : Type 1} → statement M
+shift_down_spec =
     tie.close
     (tie.spec
-    invariant_loop
-    decreases_loop
-    loop_holds
-    add-l
-    mul-l
-    slice-read-l
-    add-l-2
-    mul-l-2
-    slice-write-l
-    add-i
-    loop_less
-    loop_again
-    same_length
+    invariant-loop-i
+    decreases-loop-i
+    loop-i-init
+    overflow_add-l
+    offset_bounds-l-from
+    bounds-l-from
+    overflow_add-l-in-loop-i
+    offset_bounds-l-to
+    bounds-l-to
+    overflow_add-i
+    loop-i-smaller
+    loop-i-preserved
+    shape_of-l
     returns)

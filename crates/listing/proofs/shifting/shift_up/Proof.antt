@@ -5,70 +5,67 @@ use Rattle.listing.proofs.Moves.{Up, up_none, up_long, up_more, up_all}
 use Rattle.listing.proofs.shifting.shift_up.Statement.{statement}
 use Rattle.listing.proofs.shifting.shift_up.Tie as tie
 
-abbrev invariant_loop : tie.invariant_loop
-invariant_loop l₀ from to n i₀ l i = Up l₀ l from to n i
+abbrev invariant-loop-i : tie.invariant-loop-i
+invariant-loop-i l₀ from to n i₀ l i = Up l₀ l from to n i
 
-abbrev decreases_loop : tie.decreases_loop
-decreases_loop l₀ from to n i₀ l i = i
+abbrev decreases-loop-i : tie.decreases-loop-i
+decreases-loop-i l₀ from to n i₀ l i = i
 
-loop_holds : tie.Need-loop-init invariant_loop decreases_loop
-loop_holds c = up_none _ _ _ _ (omega (arith, c.requires))
+loop-i-init : tie.Need-loop-i-init invariant-loop-i decreases-loop-i
+loop-i-init c = up_none _ _ _ _ (omega (arith, c.requires))
 
-sub-i : tie.Need-overflow-sub-i invariant_loop decreases_loop
-sub-i c = omega (arith, c.loop-test.true)
+overflow_sub-i : tie.Need-overflow_sub-i invariant-loop-i decreases-loop-i
+overflow_sub-i c = omega (arith, c.loop-i-test.true)
 
-add-l : tie.Need-overflow-add-l invariant_loop decreases_loop
-add-l c = omega (arith, c.before.before.requires, c.before.before.well-formed)
+overflow_add-l : tie.Need-overflow_add-l invariant-loop-i decreases-loop-i
+overflow_add-l c = omega (arith, c.requires, c.well_formed)
 
-mul-l : tie.Need-overflow-mul-l invariant_loop decreases_loop
-mul-l c = omega (arith, c.before.before.requires, c.before.before.well-formed)
+offset_bounds-l-from : tie.Need-offset_bounds-l-from invariant-loop-i decreases-loop-i
+offset_bounds-l-from c = omega (arith, c.requires, c.well_formed)
 
-slice-read-l : tie.Need-slice-read-l invariant_loop decreases_loop
-slice-read-l c =
-    let turn = c.before in
-    omega (arith, turn.loop-test.true, turn.before.loop.invariant.low, up_long turn.before.loop.invariant, turn.before.before.requires)
+bounds-l-from : tie.Need-bounds-l-from invariant-loop-i decreases-loop-i
+bounds-l-from c =
+    omega (arith, c.loop-i-test.true, c.loop-i.invariant.low, up_long c.loop-i.invariant, c.requires)
 
-add-l-2 : tie.Need-overflow-add-l-2 invariant_loop decreases_loop
-add-l-2 c = omega (arith, c.before.before.before.requires, c.before.before.before.well-formed)
+overflow_add-l-in-loop-i : tie.Need-overflow_add-l-in-loop-i invariant-loop-i decreases-loop-i
+overflow_add-l-in-loop-i c = omega (arith, c.requires, c.well_formed)
 
-mul-l-2 : tie.Need-overflow-mul-l-2 invariant_loop decreases_loop
-mul-l-2 c = omega (arith, c.before.before.before.requires, c.before.before.before.well-formed)
+offset_bounds-l-to : tie.Need-offset_bounds-l-to invariant-loop-i decreases-loop-i
+offset_bounds-l-to c = omega (arith, c.requires, c.well_formed)
 
-slice-write-l : tie.Need-slice-write-l invariant_loop decreases_loop
-slice-write-l c =
-    let turn = c.before in
-    omega (arith, turn.loop-test.true, turn.before.loop.invariant.low, up_long turn.before.loop.invariant, turn.before.before.requires)
+bounds-l-to : tie.Need-bounds-l-to invariant-loop-i decreases-loop-i
+bounds-l-to c =
+    omega (arith, c.loop-i-test.true, c.loop-i.invariant.low, up_long c.loop-i.invariant, c.requires)
 
-loop_less : tie.Need-loop-smaller invariant_loop decreases_loop
-loop_less c = omega (arith, c.before.loop-test.true)
+loop-i-smaller : tie.Need-loop-i-smaller invariant-loop-i decreases-loop-i
+loop-i-smaller c = omega (arith, c.loop-i-test.true)
 
-loop_again : tie.Need-loop-preserved invariant_loop decreases_loop
-loop_again c =
-    let turn = c.before in
-    let pre = turn.before.before.requires in
-    up_more turn.before.loop.invariant (omega arith) (turn.before.loop.i - 1) (omega (arith, turn.loop-test.true)) pre.0
+loop-i-preserved : tie.Need-loop-i-preserved invariant-loop-i decreases-loop-i
+loop-i-preserved c =
+    let pre = c.requires in
+    up_more c.loop-i.invariant (omega arith) (c.loop-i.i - 1) (omega (arith, c.loop-i-test.true)) pre.0
 
-same_length : tie.Need-same-length invariant_loop decreases_loop
-same_length c = up_long c.before.loop.invariant
+shape_of-l : tie.Need-shape_of-l invariant-loop-i decreases-loop-i
+shape_of-l c = up_long c.loop-i.invariant
 
-returns : tie.Need-returns invariant_loop decreases_loop
-returns c = up_all c.before.loop.invariant c.loop-test.false
+returns : tie.Need-returns invariant-loop-i decreases-loop-i
+returns c = up_all c.loop-i.invariant c.loop-i-test.false
 
-pub shift-up-spec : {M : Type 1} → statement M
-shift-up-spec =
+pub shift_up_spec : {M : Type 1} → statement M
+shift_up_spec =
     tie.close
     (tie.spec
-    invariant_loop
-    decreases_loop
-    loop_holds
-    sub-i
-    add-l
-    mul-l
-    slice-read-l
-    add-l-2
-    mul-l-2
-    slice-write-l
-    loop_less
-    loop_again
-    same_length
+    invariant-loop-i
+    decreases-loop-i
+    loop-i-init
+    overflow_sub-i
+    overflow_add-l
+    offset_bounds-l-from
+    bounds-l-from
+    overflow_add-l-in-loop-i
+    offset_bounds-l-to
+    bounds-l-to
+    loop-i-smaller
+    loop-i-preserved
+    shape_of-l
     returns)

@@ -9,74 +9,67 @@ use Rattle.numbering.proofs.Walks.{Seeking, walk_first, seek_end, seek_here, see
 use Rattle.numbering.proofs.lasts.last_of.Statement.{statement}
 use Rattle.numbering.proofs.lasts.last_of.Tie as tie
 
-abbrev invariant_loop : tie.invariant_loop
-invariant_loop table states counts i n state₀ number₀ state number =
+abbrev invariant-loop-state : tie.invariant-loop-state
+invariant-loop-state table states counts i n state₀ number₀ state number =
     (X : Words) (t : Word) → Numbered X t table states counts i n → (i ≡ 0 → ⊥) → Seeking X t table counts i n state number
 
-abbrev decreases_loop : tie.decreases_loop
-decreases_loop table states counts i n state₀ number₀ state number = letters_left table state
+abbrev decreases-loop-state : tie.decreases-loop-state
+decreases-loop-state table states counts i n state₀ number₀ state number = letters_left table state
 
-abbrev start : tie.In-loop invariant_loop decreases_loop → tie.Start invariant_loop decreases_loop
-start c = c.before.before.before.before.before.before
+longest_ending-state-requires : tie.Need-longest_ending-state-requires invariant-loop-state decreases-loop-state
+longest_ending-state-requires c κs = let (X, t, ν, f) = c.requires in (X, t, placed ν.counted.at)
 
-longest-ending-requires : tie.Need-longest-ending-requires invariant_loop decreases_loop
-longest-ending-requires c κs = let (X, t, ν, f) = c.before.before.before.requires in (X, t, placed ν.counted.at)
-
-loop_holds : tie.Need-loop-init invariant_loop decreases_loop
-loop_holds c X t ν f = record {
+loop-state-init : tie.Need-loop-state-init invariant-loop-state decreases-loop-state
+loop-state-init c X t ν f = record {
   passed = 0;
-  walk = walk_first ν.counted.at (c.longest-ending.ensures X t (placed ν.counted.at));
+  walk = walk_first ν.counted.at (c.longest_ending-state.ensures X t (placed ν.counted.at));
   sum = omega arith;
 }
 
-count-before-requires : tie.Need-count-before-requires invariant_loop decreases_loop
-count-before-requires c κs =
-    let (X, t, ν, f) = (start c).requires in
-    let ε = (c.before.loop.invariant X t ν f).walk.ending in
-    (X, t, (ε.walking.on.here c.loop-test.true).number, ε, walking_word ε.walking c.loop-test.true)
+count_before-count-requires : tie.Need-count_before-count-requires invariant-loop-state decreases-loop-state
+count_before-count-requires c κs =
+    let (X, t, ν, f) = c.requires in
+    let ε = (c.loop-state.invariant X t ν f).walk.ending in
+    (X, t, (ε.walking.on.here c.loop-state-test.true).number, ε, walking_word ε.walking c.loop-state-test.true)
 
-returns : tie.Need-returns invariant_loop decreases_loop
-returns c X t ν f =
-    let turn = c.before.before in
-    let σ = turn.before.loop.invariant X t ν f in
-    let w = walking_word σ.walk.ending.walking turn.loop-test.true in
-    seek_here ν σ w (c.before.count-before.ensures X t _ σ.walk.ending w) (omega (arith, c.if1.true))
+returns-then-number-count : tie.Need-returns-then-number-count invariant-loop-state decreases-loop-state
+returns-then-number-count c X t ν f =
+    let σ = c.loop-state.invariant X t ν f in
+    let w = walking_word σ.walk.ending.walking c.loop-state-test.true in
+    seek_here ν σ w (c.count_before-count.ensures X t _ σ.walk.ending w) (omega (arith, c.if-number-count.true))
 
-link-requires : tie.Need-link-requires invariant_loop decreases_loop
-link-requires c κs =
-    let turn = c.before.before in
-    let (X, t, ν, f) = (start turn).requires in
-    let ω = (turn.before.loop.invariant X t ν f).walk.ending.walking in
-    word_row ω.table (walking_word ω turn.loop-test.true)
+link-state-requires : tie.Need-link-state-requires invariant-loop-state decreases-loop-state
+link-state-requires c κs =
+    let (X, t, ν, f) = c.requires in
+    let ω = (c.loop-state.invariant X t ν f).walk.ending.walking in
+    word_row ω.table (walking_word ω c.loop-state-test.true)
 
-loop_less : tie.Need-loop-smaller invariant_loop decreases_loop
-loop_less c =
-    let turn = c.before.before.before in
-    let (X, t, ν, f) = (start turn).requires in
-    let ω = (turn.before.loop.invariant X t ν f).walk.ending.walking in
-    (word_next ω.table (walking_word ω turn.loop-test.true) c.link.ensures.is).less
+loop-state-smaller : tie.Need-loop-state-smaller invariant-loop-state decreases-loop-state
+loop-state-smaller c =
+    let (X, t, ν, f) = c.requires in
+    let ω = (c.loop-state.invariant X t ν f).walk.ending.walking in
+    (word_next ω.table (walking_word ω c.loop-state-test.true) c.link-state.ensures.is).less
 
-loop_again : tie.Need-loop-preserved invariant_loop decreases_loop
-loop_again c X t ν f =
-    let turn = c.before.before.before in
-    let σ = turn.before.loop.invariant X t ν f in
-    let w = walking_word σ.walk.ending.walking turn.loop-test.true in
-    seek_past ν σ w (c.before.before.count-before.ensures X t _ σ.walk.ending w) (omega (arith, c.before.if1.false)) c.link.ensures.is
+loop-state-preserved : tie.Need-loop-state-preserved invariant-loop-state decreases-loop-state
+loop-state-preserved c X t ν f =
+    let σ = c.loop-state.invariant X t ν f in
+    let w = walking_word σ.walk.ending.walking c.loop-state-test.true in
+    seek_past ν σ w (c.count_before-count.ensures X t _ σ.walk.ending w) (omega (arith, c.if-number-count.false)) c.link-state.ensures.is
 
-returns_2 : tie.Need-returns-2 invariant_loop decreases_loop
-returns_2 c X t ν f = absurd (seek_end ν (c.before.loop.invariant X t ν f) f c.loop-test.false)
+returns : tie.Need-returns invariant-loop-state decreases-loop-state
+returns c X t ν f = absurd (seek_end ν (c.loop-state.invariant X t ν f) f c.loop-state-test.false)
 
-pub last-of-spec : {M : Type 1} → statement M
-last-of-spec =
+pub last_of_spec : {M : Type 1} → statement M
+last_of_spec =
     tie.close
     (tie.spec
-    invariant_loop
-    decreases_loop
-    longest-ending-requires
-    loop_holds
-    count-before-requires
-    returns
-    link-requires
-    loop_less
-    loop_again
-    returns_2)
+    invariant-loop-state
+    decreases-loop-state
+    longest_ending-state-requires
+    loop-state-init
+    count_before-count-requires
+    returns-then-number-count
+    link-state-requires
+    loop-state-smaller
+    loop-state-preserved
+    returns)

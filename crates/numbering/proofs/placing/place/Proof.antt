@@ -17,143 +17,120 @@ use Rattle.numbering.proofs.Sums.{Summing, sum_none, sum_counted, sum_found, sum
 use Rattle.numbering.proofs.placing.place.Statement.{statement}
 use Rattle.numbering.proofs.placing.place.Tie as tie
 
-abbrev invariant_loop : tie.invariant_loop
-invariant_loop table states counts m reading k n₀ i₀ j₀ n i j =
+abbrev invariant-loop-j : tie.invariant-loop-j
+invariant-loop-j table states counts m reading k n₀ i₀ j₀ n i j =
     (X : Words) (t : Word) → Exactly X t table states counts m → Summing X t table states reading k i j n
 
-abbrev decreases_loop : tie.decreases_loop
-decreases_loop table states counts m reading k n₀ i₀ j₀ n i j = j
+abbrev decreases-loop-j : tie.decreases-loop-j
+decreases-loop-j table states counts m reading k n₀ i₀ j₀ n i j = j
 
-abbrev start : tie.In-loop invariant_loop decreases_loop → tie.Start invariant_loop decreases_loop
-start c = c.before.before.before.before.before.before
+loop-j-init : tie.Need-loop-j-init invariant-loop-j decreases-loop-j
+loop-j-init c X t ξ = let (Y, u, χ, room) = c.requires in sum_none ξ room
 
-loop_holds : tie.Need-loop-init invariant_loop decreases_loop
-loop_holds c X t ξ = let (Y, u, χ, room) = c.before.before.before.before.requires in sum_none ξ room
+overflow_sub-j : tie.Need-overflow_sub-j invariant-loop-j decreases-loop-j
+overflow_sub-j c = omega (arith, c.loop-j-test.true)
 
-sub_wide : tie.Need-overflow-sub-wide invariant_loop decreases_loop
-sub_wide c = omega (arith, c.loop-test.true)
+offset_bounds-reading-j : tie.Need-offset_bounds-reading-j invariant-loop-j decreases-loop-j
+offset_bounds-reading-j c =
+    let (X, t, ξ, room) = c.requires in
+    omega (arith, (c.loop-j.invariant X t ξ).back.low, room, c.well_formed)
 
-mul_wide : tie.Need-overflow-mul-wide invariant_loop decreases_loop
-mul_wide c =
-    let s = start c in
-    let (X, t, ξ, room) = s.pre in
-    omega (arith, (c.before.loop.invariant X t ξ).back.low, room, s.good)
+bounds-reading-j : tie.Need-bounds-reading-j invariant-loop-j decreases-loop-j
+bounds-reading-j c =
+    let (X, t, ξ, room) = c.requires in
+    omega (arith, (c.loop-j.invariant X t ξ).back.low, room, c.loop-j-test.true)
 
-shared-slice-read-wide : tie.Need-shared-slice-read-wide invariant_loop decreases_loop
-shared-slice-read-wide c =
-    let turn = c.before in
-    let (X, t, ξ, room) = (start turn).requires in
-    omega (arith, (turn.before.loop.invariant X t ξ).back.low, room, turn.loop-test.true)
-
-wide-requires : tie.Need-wide-requires invariant_loop decreases_loop
+wide-requires : tie.Need-wide-requires invariant-loop-j decreases-loop-j
 wide-requires c κs = search rules
 
-ahead-of-requires : tie.Need-ahead-of-requires invariant_loop decreases_loop
-ahead-of-requires c κs =
-    let turn = c.before.before in
-    let (X, t, ξ, room) = (start turn).requires in
-    (X, t, sum_counted ξ room (turn.before.loop.invariant X t ξ))
-
-abbrev turned : tie.After-struct-known invariant_loop decreases_loop → tie.In-loop invariant_loop decreases_loop
-turned c = c.before.before.before.before
+ahead_of-last-requires : tie.Need-ahead_of-last-requires invariant-loop-j decreases-loop-j
+ahead_of-last-requires c κs =
+    let (X, t, ξ, room) = c.requires in
+    (X, t, sum_counted ξ room (c.loop-j.invariant X t ξ))
 
 -- the word at the last entry, and how many readings come before those that end with it
-ahead : (c : tie.After-struct-known invariant_loop decreases_loop) (X : Words) (t : Word) → let a = (start (turned c)).args in
-    let r = c.before.ahead_of_lem.result in
+ahead : (c : tie.After-struct_known-1 invariant-loop-j decreases-loop-j) (X : Words) (t : Word) → let a = c.args in
+    let r = c.ahead_of-last.result in
     Exactly X t a.table.now a.states.now a.counts.now a.m
-    → AheadOf X t (turned c).before.loop.i c.before.before.wide.result r.state r.number
+    → AheadOf X t c.loop-j.i c.wide.result r.state r.number
 ahead c X t ξ =
-    let (Y, u, χ, room) = (start (turned c)).pre in
-    c.before.ahead_of_lem.ensures X t (sum_counted ξ room ((turned c).before.loop.invariant X t ξ))
+    let (Y, u, χ, room) = c.requires in
+    c.ahead_of-last.ensures X t (sum_counted ξ room (c.loop-j.invariant X t ξ))
 
-returns : tie.Need-returns invariant_loop decreases_loop
-returns c X t ξ =
-    let d = c.before in
-    let turn = turned d in
-    let (Y, u, χ, room) = (start turn).pre in
-    sym (ap placed (sum_stops ξ room (turn.before.loop.inv X t ξ) turn.loop-test.taken d.before.before.wide.ensures.0
-    (ahead d X t ξ) c.if1.true))
+returns-then-last-eq-NONE : tie.Need-returns-then-last-eq-NONE invariant-loop-j decreases-loop-j
+returns-then-last-eq-NONE c X t ξ =
+    let (Y, u, χ, room) = c.requires in
+    sym (ap placed (sum_stops ξ room (c.loop-j.invariant X t ξ) c.loop-j-test.true c.wide.ensures.0
+    (ahead c.before X t ξ) c.if-last-eq-NONE.true))
 
-abbrev passed : tie.After-struct-known2 invariant_loop decreases_loop → tie.After-struct-known invariant_loop decreases_loop
-passed c = c.before.before
-
-add-n : tie.Need-overflow-add-n invariant_loop decreases_loop
-add-n c =
-    let d = passed c in
-    let turn = turned d in
-    let (X, t, ξ, room) = (start turn).pre in
+overflow_add-n : tie.Need-overflow_add-n invariant-loop-j decreases-loop-j
+overflow_add-n c =
+    let (X, t, ξ, room) = c.requires in
     omega (
       arith,
-      sum_fits ξ room (turn.before.loop.inv X t ξ) turn.loop-test.taken d.before.before.wide.ensures.0 (ahead d X t ξ)
-          c.before.if1.false,
+      sum_fits ξ room (c.loop-j.invariant X t ξ) c.loop-j-test.true c.wide.ensures.0 (ahead c.before.before X t ξ)
+          c.if-last-eq-NONE.false,
     )
 
 -- past the test the word ends there
-there : (c : tie.After-struct-known2 invariant_loop decreases_loop) (X : Words) (t : Word) → let d = passed c in
-    let a = (start (turned d)).args in
-    let n = d.before.before.wide.result in
+there : (c : tie.After-struct_known-in-loop-j-1 invariant-loop-j decreases-loop-j) (X : Words) (t : Word) → let a = c.args in
+    let n = c.wide.result in
     Exactly X t a.table.now a.states.now a.counts.now a.m
-    → Memᴰ n (chain X (take (turned d).before.loop.i t)) × IsWord X d.before.ahead_of_lem.result.state n
+    → Memᴰ n (chain X (take c.loop-j.i t)) × IsWord X c.ahead_of-last.result.state n
 there c X t ξ =
-    let d = passed c in
-    sought_some _ (ahead d X t ξ).found c.before.if1.false
+    sought_some _ (ahead c.before.before X t ξ).found c.if-last-eq-NONE.false
 
-depth-requires : tie.Need-depth-requires invariant_loop decreases_loop
-depth-requires c κs =
-    let (X, t, ξ, room) = (start (turned (passed c))).pre in
+depth-i-requires : tie.Need-depth-i-requires invariant-loop-j decreases-loop-j
+depth-i-requires c κs =
+    let (X, t, ξ, room) = c.requires in
     word_row ξ.whole.scanned.table (there c X t ξ).1
 
-sub-i : tie.Need-overflow-sub-i invariant_loop decreases_loop
-sub-i c =
-    let turn = turned (passed c.before) in
-    let (X, t, ξ, room) = (start turn).pre in
+overflow_sub-i : tie.Need-overflow_sub-i invariant-loop-j decreases-loop-j
+overflow_sub-i c =
+    let (X, t, ξ, room) = c.requires in
     let w = there c.before X t ξ in
-    there_fits (turn.before.loop.inv X t ξ).back.at w.0 w.1 c.depth.ensures.is
+    there_fits (c.loop-j.invariant X t ξ).back.at w.0 w.1 c.depth-i.ensures.is
 
-sub-j : tie.Need-overflow-sub-j invariant_loop decreases_loop
-sub-j c = omega (arith, (turned (passed c.before)).loop-test.taken)
+overflow_sub-j-in-loop-j : tie.Need-overflow_sub-j-in-loop-j invariant-loop-j decreases-loop-j
+overflow_sub-j-in-loop-j c = omega (arith, c.loop-j-test.true)
 
-loop_less : tie.Need-loop-smaller invariant_loop decreases_loop
-loop_less c = omega (arith, (turned (passed c.before)).loop-test.taken)
+loop-j-smaller : tie.Need-loop-j-smaller invariant-loop-j decreases-loop-j
+loop-j-smaller c = omega (arith, c.loop-j-test.true)
 
-loop_again : tie.Need-loop-preserved invariant_loop decreases_loop
-loop_again c X t ξ =
-    let d = passed c.before in
-    let turn = turned d in
-    let (Y, u, χ, room) = (start turn).pre in
-    sum_on ξ room (turn.before.loop.inv X t ξ) turn.loop-test.taken d.before.before.wide.ensures.0 (ahead d X t ξ)
-    c.before.before.if1.false c.depth.ensures.is
+loop-j-preserved : tie.Need-loop-j-preserved invariant-loop-j decreases-loop-j
+loop-j-preserved c X t ξ =
+    let (Y, u, χ, room) = c.requires in
+    sum_on ξ room (c.loop-j.invariant X t ξ) c.loop-j-test.true c.wide.ensures.0 (ahead c.before.before.before X t ξ)
+    c.if-last-eq-NONE.false c.depth-i.ensures.is
 
-returns_2 : tie.Need-returns-2 invariant_loop decreases_loop
-returns_2 c X t ξ =
-    let l = c.before in
-    let (Y, u, χ, room) = l.before.before.before.before.before.before.requires in
-    sym (ap placed (sum_found ξ room (l.before.loop.invariant X t ξ) l.loop-test.false (omega (arith, c.if2.true))))
+returns-then-i-eq0 : tie.Need-returns-then-i-eq0 invariant-loop-j decreases-loop-j
+returns-then-i-eq0 c X t ξ =
+    let (Y, u, χ, room) = c.requires in
+    sym (ap placed (sum_found ξ room (c.loop-j.invariant X t ξ) c.loop-j-test.false (omega (arith, c.if-i-eq0.true))))
 
-returns-3 : tie.Need-returns-3 invariant_loop decreases_loop
-returns-3 c X t ξ =
-    let l = c.before in
-    let (Y, u, χ, room) = l.before.before.before.before.before.before.requires in
-    sym (ap placed (sum_left ξ room (l.before.loop.invariant X t ξ) l.loop-test.false c.if2.false))
+returns-else-i-eq0 : tie.Need-returns-else-i-eq0 invariant-loop-j decreases-loop-j
+returns-else-i-eq0 c X t ξ =
+    let (Y, u, χ, room) = c.requires in
+    sym (ap placed (sum_left ξ room (c.loop-j.invariant X t ξ) c.loop-j-test.false c.if-i-eq0.false))
 
-pub place-spec : {M : Type 1} → statement M
-place-spec =
+pub place_spec : {M : Type 1} → statement M
+place_spec =
     tie.close
     (tie.spec
-    invariant_loop
-    decreases_loop
-    loop_holds
-    sub_wide
-    mul_wide
-    shared-slice-read-wide
+    invariant-loop-j
+    decreases-loop-j
+    loop-j-init
+    overflow_sub-j
+    offset_bounds-reading-j
+    bounds-reading-j
     wide-requires
-    ahead-of-requires
-    returns
-    add-n
-    depth-requires
-    sub-i
-    sub-j
-    loop_less
-    loop_again
-    returns_2
-    returns-3)
+    ahead_of-last-requires
+    returns-then-last-eq-NONE
+    overflow_add-n
+    depth-i-requires
+    overflow_sub-i
+    overflow_sub-j-in-loop-j
+    loop-j-smaller
+    loop-j-preserved
+    returns-then-i-eq0
+    returns-else-i-eq0)
