@@ -35,11 +35,12 @@ greatest s X = greatest_refusal X (text s)
 abbrev words : tie.Start → Run
 words s = words_under s.args.map.now s.args.dict.now
 
-found : (c : tie.In-Passed) → Passes (columns c) (words c)
+found : (c : tie.In-Passed) → Passes (columns c.before.before.before.before.before.before.before.before) (words c.before.before.before.before.before.before.before.before)
 found c =
-    passes (columns c.before.before.before.before.before.before.before.before) (words c.before.before.before.before.before.before.before.before) (sym c.in-Passed.is ∙ c.judge_list.ensures)
+    let s = c.before.before.before.before.before.before.before.before in
+    passes (columns s) (words s) (sym c.in-Passed.is ∙ c.judge_list.ensures)
 
-whole : (c : tie.In-Passed) → Whole (found c).X (text c) c.args.table.now c.args.states.now c.args.counts.now (length c.args.text.now)
+whole : (c : tie.In-Passed) → Whole (found c).X (text c.before.before.before.before.before.before.before.before) c.args.table.now c.args.states.now c.args.counts.now (length c.args.text.now)
 whole c =
     let a = c.args in
     let p = found c in
@@ -48,14 +49,15 @@ whole c =
     record { scanned = scanned good p.clear; long = sym (mapped_size a.map.now a.text.now) }
 
 -- the that is tested
-count : (c : tie.In-Passed) → get_or c.args.counts.now (length c.args.text.now) 0 ≡ count_at (found c).X (text c) (length (text c))
+count : (c : tie.In-Passed) → get_or c.args.counts.now (length c.args.text.now) 0 ≡ count_at (found c).X (text c.before.before.before.before.before.before.before.before) (length (text c.before.before.before.before.before.before.before.before))
 count c = let w = whole c in whole_count w ∙ ap (count_at (found c).X (text c.before.before.before.before.before.before.before.before)) w.long
 
 -- what it decides
-decides : (c : tie.In-Passed) (b : Bool) → eqb (count_at (found c).X (text c) (length (text c))) most_counted ≡ b
-    → passed (if b then 22 else 0) ≡ verdict (λ X. columns c X and_then greatest c X) (words c)
+decides : (c : tie.In-Passed) (b : Bool) → eqb (count_at (found c).X (text c.before.before.before.before.before.before.before.before) (length (text c.before.before.before.before.before.before.before.before))) most_counted ≡ b
+    → passed (if b then 22 else 0) ≡ verdict (λ X. columns c.before.before.before.before.before.before.before.before X and_then greatest c.before.before.before.before.before.before.before.before X) (words c.before.before.before.before.before.before.before.before)
 decides c b e =
-    then_test (columns c.before.before.before.before.before.before.before.before) (greatest c.before.before.before.before.before.before.before.before) (words c.before.before.before.before.before.before.before.before) (found c) (ap (λ (q : Bool). if q then 22 else 0) e)
+    let s = c.before.before.before.before.before.before.before.before in
+    then_test (columns s) (greatest s) (words s) (found c) (ap (λ (q : Bool). if q then 22 else 0) e)
 
 judge_list-requires : tie.Need-judge_list-requires
 judge_list-requires c κs = search rules
@@ -77,7 +79,8 @@ returns-then-counts-text c = decides c.before.before true (eq-eqb _ _ (sym (coun
 
 returns-in-Refused : tie.Need-returns-in-Refused
 returns-in-Refused c =
-    refused_before (columns c.before.before.before.before.before.before.before.before) (greatest c.before.before.before.before.before.before.before.before) (words c.before.before.before.before.before.before.before.before) (sym c.in-Refused.is ∙ c.judge_list.ensures)
+    let s = c.before.before.before.before.before.before.before.before in
+    refused_before (columns s) (greatest s) (words s) (sym c.in-Refused.is ∙ c.judge_list.ensures)
 
 returns-else-counts-text : tie.Need-returns-else-counts-text
 returns-else-counts-text c = decides c.before.before false (ne_eqb _ _ (λ e. c.if-counts-text.false (count c.before.before ∙ e)))

@@ -38,11 +38,12 @@ columns s X = columns_refusal X (text s) (ss s) (cs s)
 abbrev words : tie.Start → Run
 words s = words_under s.args.map.now s.args.dict.now
 
-found : (c : tie.In-Passed) → Passes (sizes c) (words c)
+found : (c : tie.In-Passed) → Passes (sizes c.before.before.before.before.before.before.before.before) (words c.before.before.before.before.before.before.before.before)
 found c =
-    passes (sizes c.before.before.before.before.before.before.before.before) (words c.before.before.before.before.before.before.before.before) (sym c.in-Passed.is ∙ c.judge_scan.ensures)
+    let s = c.before.before.before.before.before.before.before.before in
+    passes (sizes s) (words s) (sym c.in-Passed.is ∙ c.judge_scan.ensures)
 
-fits : (c : tie.In-Passed) → Room (found c).X (text c) (tb c) (ss c) (cs c)
+fits : (c : tie.In-Passed) → Room (found c).X (text c.before.before.before.before.before.before.before.before) (tb c.before.before.before.before.before.before.before.before) (ss c.before.before.before.before.before.before.before.before) (cs c.before.before.before.before.before.before.before.before)
 fits c =
     let a = c.args in
     let p = found c in
@@ -52,10 +53,11 @@ fits c =
     p.clear
 
 -- what the columns decide
-decides : (c : tie.After-are_columns) (b : Bool) → b ≡ are_columns (found c.before).X (text c) (ss c) (cs c)
-    → passed (if b then 0 else 11) ≡ verdict (λ X. sizes c X and_then columns c X) (words c)
+decides : (c : tie.After-are_columns) (b : Bool) → b ≡ are_columns (found c.before).X (text c.before.before.before.before.before.before.before.before.before) (ss c.before.before.before.before.before.before.before.before.before) (cs c.before.before.before.before.before.before.before.before.before)
+    → passed (if b then 0 else 11) ≡ verdict (λ X. sizes c.before.before.before.before.before.before.before.before.before X and_then columns c.before.before.before.before.before.before.before.before.before X) (words c.before.before.before.before.before.before.before.before.before)
 decides c b e =
-    then_test (sizes c.before.before.before.before.before.before.before.before.before) (columns c.before.before.before.before.before.before.before.before.before) (words c.before.before.before.before.before.before.before.before.before) (found c.before) (ap (λ (q : Bool). if q then 0 else 11) (sym e))
+    let s = c.before.before.before.before.before.before.before.before.before in
+    then_test (sizes s) (columns s) (words s) (found c.before) (ap (λ (q : Bool). if q then 0 else 11) (sym e))
 
 judge_scan-requires : tie.Need-judge_scan-requires
 judge_scan-requires c κs = search rules
@@ -75,7 +77,8 @@ returns-then-are_columns c =
 
 returns-in-Refused : tie.Need-returns-in-Refused
 returns-in-Refused c =
-    refused_before (sizes c.before.before.before.before.before.before.before.before) (columns c.before.before.before.before.before.before.before.before) (words c.before.before.before.before.before.before.before.before) (sym c.in-Refused.is ∙ c.judge_scan.ensures)
+    let s = c.before.before.before.before.before.before.before.before in
+    refused_before (sizes s) (columns s) (words s) (sym c.in-Refused.is ∙ c.judge_scan.ensures)
 
 returns-else-are_columns : tie.Need-returns-else-are_columns
 returns-else-are_columns c =

@@ -36,11 +36,12 @@ abbrev sizes : tie.Start → ℕ
 sizes s = text_refusal (text s) and_then room_refusal (text s) (ss s) (cs s)
 
 -- what the sizes decide
-decides : (c : tie.In-Passed) {n : ℕ} → sizes c ≡ n
-    → passed n ≡ verdict (λ X. rows c X and_then sizes c) (words c)
+decides : (c : tie.In-Passed) {n : ℕ} → sizes c.before.before.before.before.before.before.before.before ≡ n
+    → passed n ≡ verdict (λ X. rows c.before.before.before.before.before.before.before.before X and_then sizes c.before.before.before.before.before.before.before.before) (words c.before.before.before.before.before.before.before.before)
 decides c e =
-    then_test (rows c.before.before.before.before.before.before.before.before) (λ X. sizes c.before.before.before.before.before.before.before.before) (words c.before.before.before.before.before.before.before.before)
-    (passes (rows c.before.before.before.before.before.before.before.before) (words c.before.before.before.before.before.before.before.before) (sym c.in-Passed.is ∙ c.judge_rows.ensures)) e
+    let s = c.before.before.before.before.before.before.before.before in
+    then_test (rows s) (λ X. sizes s) (words s)
+    (passes (rows s) (words s) (sym c.in-Passed.is ∙ c.judge_rows.ensures)) e
 
 -- how long the text is
 size : (s : tie.Start) → length (text s) ≡ length s.args.text.now
@@ -57,31 +58,36 @@ enum_told-1 c = search rules
 
 returns-then-text-gt-LONGEST_TEXT : tie.Need-returns-then-text-gt-LONGEST_TEXT
 returns-then-text-gt-LONGEST_TEXT c =
-    decides c.before (long_text (text c.before.before.before.before.before.before.before.before.before) (ss c.before.before.before.before.before.before.before.before.before) (cs c.before.before.before.before.before.before.before.before.before) (omega (arith, c.if-text-gt-LONGEST_TEXT.true, size c.before.before.before.before.before.before.before.before.before)))
+    let s = c.before.before.before.before.before.before.before.before.before in
+    decides c.before (long_text (text s) (ss s) (cs s) (omega (arith, c.if-text-gt-LONGEST_TEXT.true, size s)))
 
 returns-then-states-text : tie.Need-returns-then-states-text
 returns-then-states-text c =
-    decides c.before.before (short_states (text c.before.before.before.before.before.before.before.before.before.before) (ss c.before.before.before.before.before.before.before.before.before.before) (cs c.before.before.before.before.before.before.before.before.before.before) (omega (arith, c.if-text-gt-LONGEST_TEXT.false, size c.before.before.before.before.before.before.before.before.before.before)) (omega (arith, c.if-states-text.true, size c.before.before.before.before.before.before.before.before.before.before)))
+    let s = c.before.before.before.before.before.before.before.before.before.before in
+    decides c.before.before (short_states (text s) (ss s) (cs s) (omega (arith, c.if-text-gt-LONGEST_TEXT.false, size s)) (omega (arith, c.if-states-text.true, size s)))
 
 returns-then-counts-text : tie.Need-returns-then-counts-text
 returns-then-counts-text c =
+    let s = c.before.before.before.before.before.before.before.before.before.before.before in
     decides c.before.before.before
-    (short_counts (text c.before.before.before.before.before.before.before.before.before.before.before) (ss c.before.before.before.before.before.before.before.before.before.before.before) (cs c.before.before.before.before.before.before.before.before.before.before.before)
-    (omega (arith, c.if-text-gt-LONGEST_TEXT.false, size c.before.before.before.before.before.before.before.before.before.before.before))
-    (omega (arith, c.if-states-text.false, size c.before.before.before.before.before.before.before.before.before.before.before))
-    (omega (arith, c.if-counts-text.true, size c.before.before.before.before.before.before.before.before.before.before.before)))
+    (short_counts (text s) (ss s) (cs s)
+    (omega (arith, c.if-text-gt-LONGEST_TEXT.false, size s))
+    (omega (arith, c.if-states-text.false, size s))
+    (omega (arith, c.if-counts-text.true, size s)))
 
 returns-in-Refused : tie.Need-returns-in-Refused
 returns-in-Refused c =
-    refused_before (rows c.before.before.before.before.before.before.before.before) (λ X. sizes c.before.before.before.before.before.before.before.before) (words c.before.before.before.before.before.before.before.before) (sym c.in-Refused.is ∙ c.judge_rows.ensures)
+    let s = c.before.before.before.before.before.before.before.before in
+    refused_before (rows s) (λ X. sizes s) (words s) (sym c.in-Refused.is ∙ c.judge_rows.ensures)
 
 returns-else-counts-text : tie.Need-returns-else-counts-text
 returns-else-counts-text c =
+    let s = c.before.before.before.before.before.before.before.before.before.before.before in
     decides c.before.before.before
-    (sizes_fit (text c.before.before.before.before.before.before.before.before.before.before.before) (ss c.before.before.before.before.before.before.before.before.before.before.before) (cs c.before.before.before.before.before.before.before.before.before.before.before)
-    (omega (arith, c.if-text-gt-LONGEST_TEXT.false, size c.before.before.before.before.before.before.before.before.before.before.before))
-    (omega (arith, c.if-states-text.false, size c.before.before.before.before.before.before.before.before.before.before.before))
-    (omega (arith, c.if-counts-text.false, size c.before.before.before.before.before.before.before.before.before.before.before)))
+    (sizes_fit (text s) (ss s) (cs s)
+    (omega (arith, c.if-text-gt-LONGEST_TEXT.false, size s))
+    (omega (arith, c.if-states-text.false, size s))
+    (omega (arith, c.if-counts-text.false, size s)))
 
 pub judge_scan_spec : {M : Type 1} → statement M
 judge_scan_spec =

@@ -8,35 +8,28 @@ use Rattle.judging.proofs.Under.{map_first_book, book_lent}
 use Rattle.orgamish.proofs.books.block.Statement.{statement}
 use Rattle.orgamish.proofs.books.block.Tie as tie
 
-abbrev begun : tie.After-is-map → tie.Start
-begun c = c.before.before.before
+is_map-requires : tie.Need-is_map-requires
+is_map-requires c κs = search rules
 
-is-map-requires : tie.Need-is-map-requires
-is-map-requires c κs = search rules
+slice_bounds-result-end : tie.Need-slice_bounds-result-end
+slice_bounds-result-end c = search rules
 
-slice-aggregate-result : tie.Need-slice-aggregate-result
-slice-aggregate-result c = search rules
-
-returns : tie.Need-returns
-returns c =
-    let t = c.before in
-    let d = t.before in
-    let a = (begun d).args in
+returns-then-not-is_map : tie.Need-returns-then-not-is_map
+returns-then-not-is_map c =
+    let a = c.args in
     sym (ap (λ (o : Opened). word (texts_of o) a.n)
-    (map_first_book a.map.now a.book.now (sym d.is-map.ensures ∙ not-true _ t.if1.true)))
+    (map_first_book a.map.now a.book.now (sym c.is_map.ensures ∙ not-true _ c.if-not-is_map.true-raw)))
 
 block-requires : tie.Need-block-requires
 block-requires c κs = search rules
 
-returns_2 : tie.Need-returns-2
-returns_2 c =
-    let e = c.before in
-    let d = e.before in
-    let a = (begun d).args in
+returns : tie.Need-returns
+returns c =
+    let a = c.args in
     c.block.ensures
     ∙ sym (ap (λ (o : Opened). word (texts_of o) a.n)
-    (book_lent a.map.now a.book.now (sym d.is-map.ensures ∙ not-false _ e.if1.false)))
+    (book_lent a.map.now a.book.now (sym c.is_map.ensures ∙ not-false _ c.if-not-is_map.false-raw)))
 
 pub block_spec : {M : Type 1} → statement M
 block_spec =
-    tie.close (tie.spec is-map-requires slice-aggregate-result returns block-requires returns_2)
+    tie.close (tie.spec is_map-requires slice_bounds-result-end returns-then-not-is_map block-requires returns)

@@ -12,62 +12,54 @@ use Rattle.judging.proofs.Under.{map_first_book, book_lent}
 use Rattle.orgamish.proofs.books.check_book.Statement.{statement}
 use Rattle.orgamish.proofs.books.check_book.Tie as tie
 
-abbrev begun : tie.After-is-map → tie.Start
-begun c = c.before.before.before
+abbrev asked : tie.After-check_book → tie.Start
+asked c = c.before.before.before.before.before
 
-abbrev asked : tie.After-check-book → tie.Start
-asked c = begun c.before.before
-
-abbrev opens : tie.After-check-book → Opened
+abbrev opens : tie.After-check_book → Opened
 opens c = book (asked c).args.map.now (asked c).args.book.now
 
-lent : (c : tie.After-check-book) → opens c ≡ book_under (asked c).args.map.now (asked c).args.book.now
+lent : (c : tie.After-check_book) → opens c ≡ book_under (asked c).args.map.now (asked c).args.book.now
 lent c =
-    let e = c.before in
     let a = (asked c).args in
-    sym (book_lent a.map.now a.book.now (sym e.before.is-map.ensures ∙ not-false _ e.if1.false))
+    sym (book_lent a.map.now a.book.now (sym c.is_map.ensures ∙ not-false _ c.if-not-is_map.false-raw))
 
-is-map-requires : tie.Need-is-map-requires
-is-map-requires c κs = search rules
+is_map-requires : tie.Need-is_map-requires
+is_map-requires c κs = search rules
 
-returns : tie.Need-returns
-returns c =
-    let d = c.before in
-    let a = (begun d).args in
-    sym (ap check_tells (map_first_book a.map.now a.book.now (sym d.is-map.ensures ∙ not-true _ c.if1.true)))
+returns-then-not-is_map : tie.Need-returns-then-not-is_map
+returns-then-not-is_map c =
+    let a = c.args in
+    sym (ap check_tells (map_first_book a.map.now a.book.now (sym c.is_map.ensures ∙ not-true _ c.if-not-is_map.true-raw)))
 
-check-book-requires : tie.Need-check-book-requires
-check-book-requires c κs = search rules
+check_book-requires : tie.Need-check_book-requires
+check_book-requires c κs = search rules
 
-enum-known-number : tie.Need-enum-known-number
-enum-known-number c = search rules
+enum_known-number : tie.Need-enum_known-number
+enum_known-number c = search rules
 
-enum-known-words : tie.Need-enum-known-words
-enum-known-words c = search rules
+enum_known-words : tie.Need-enum_known-words
+enum_known-words c = search rules
 
-returns_2 : tie.Need-returns-2
-returns_2 c =
-    let d = c.before.before.before in
-    ap check_tells (sym (told_shut (opens d) (ap book_told (sym c.before.number.given.1) ∙ d.check-book.ensures)) ∙ lent d)
+returns-in-Refused : tie.Need-returns-in-Refused
+returns-in-Refused c =
+    ap check_tells (sym (told_shut (opens c.before) (ap book_told (sym c.in-Refused.is) ∙ c.check_book.ensures)) ∙ lent c.before)
 
-returns-3 : tie.Need-returns-3
-returns-3 c =
-    let d = c.before.before.before in
-    let w = told_opened (opens d) (ap book_told (sym c.before.words.given.1) ∙ d.check-book.ensures) in
-    let g = c.before.words.given.0 in
+returns-in-Blocks : tie.Need-returns-in-Blocks
+returns-in-Blocks c =
+    let w = told_opened (opens c.before) (ap book_told (sym c.in-Blocks.is) ∙ c.check_book.ensures) in
     let count = w.count in
     let blocks = w.blocks in
-    let same : answer (g.0 ∷ g.1.0 ∷ []) ≡ check_tells (opened w.X g.1.1.0 w.T) = cc in
-    same ∙ ap check_tells (sym w.is ∙ lent d)
+    let same : answer (c.in-Blocks.words ∷ c.in-Blocks.blocks ∷ []) ≡ check_tells (opened w.X c.in-Blocks.start w.T) = cc in
+    same ∙ ap check_tells (sym w.is ∙ lent c.before)
 
-pub check-book-spec : {M : Type 1} → statement M
-check-book-spec =
+pub check_book_spec : {M : Type 1} → statement M
+check_book_spec =
     tie.close
     (tie.spec
-    is-map-requires
-    returns
-    check-book-requires
-    enum-known-number
-    enum-known-words
-    returns_2
-    returns-3)
+    is_map-requires
+    returns-then-not-is_map
+    check_book-requires
+    enum_known-number
+    enum_known-words
+    returns-in-Refused
+    returns-in-Blocks)

@@ -25,9 +25,6 @@ use Rattle.orgamish.proofs.Listings.{number_by, values_by, first_number, answer_
 use Rattle.orgamish.proofs.lists.first.Statement.{statement}
 use Rattle.orgamish.proofs.lists.first.Tie as tie
 
-abbrev begun : tie.After-judge-list → tie.Start
-begun c = c.before.before.before.before.before.before.before.before
-
 abbrev text : tie.Start → Word
 text s = mapped s.args.map.now s.args.text.now
 
@@ -56,126 +53,113 @@ values s X = length_of (chosen s X)
 abbrev after : tie.Start → Words → List ℕ
 after s X = listed (chosen s X) (buffer s)
 
-abbrev judged : tie.After-enum-told → tie.After-judge-list
-judged c = c.before.before
-
-found : (c : tie.After-enum-told) → let s = begun (judged c) in Passes (columns s) (run s)
+found : (c : tie.In-Passed) → Passes (columns c.before.before.before.before.before.before.before.before.before) (run c.before.before.before.before.before.before.before.before.before)
 found c =
-    let s = begun (judged c) in
-    passes (columns s) (run s) (sym c.enum_told.given.1 ∙ (judged c).judge-list.ensures)
+    let s = c.before.before.before.before.before.before.before.before.before in
+    passes (columns s) (run s) (sym c.in-Passed.is ∙ c.judge_list.ensures)
 
-good : (c : tie.After-enum-told) → Allowed (found c).X
+good : (c : tie.In-Passed) → Allowed (found c).X
 good c =
-    let d = judged c in
-    let a = (begun d).args in
+    let a = c.args in
     passed_allowed a.map.now a.dict.now
-    (λ x. omega (arith, d.before.before.before.before.before.before.before.shared-slice-known.given x)) (found c)
+    (λ x. omega (arith, c.shared_slice_known-1.given x)) (found c)
 
-whole : (c : tie.After-enum-told) → let s = begun (judged c) in
-    Whole (found c).X (text s) s.args.table.now s.args.states.now s.args.counts.now (length s.args.text.now)
+whole : (c : tie.In-Passed) → Whole (found c).X (text c.before.before.before.before.before.before.before.before.before) c.args.table.now c.args.states.now c.args.counts.now (length c.args.text.now)
 whole c =
-    let a = (begun (judged c)).args in
+    let a = c.args in
     record { scanned = scanned (good c) (found c).clear; long = sym (mapped_size a.map.now a.text.now) }
 
-abbrev asked : tie.After-first → tie.After-enum-told
-asked c = c.before.before
-
-answers : (c : tie.After-first) → let s = begun (judged (asked c)) in
-    Answers (chosen s (found (asked c)).X) (buffer s) c.first.new.1.1.1.1.0 c.first.result
-answers c = c.first.ensures _ _ (whole (asked c))
+answers : (c : tie.After-first) → Answers (chosen c.before.before.before.before.before.before.before.before.before.before.before (found c.before.before).X) (buffer c.before.before.before.before.before.before.before.before.before.before.before) c.first.new.reading c.first.result
+answers c = c.first.ensures _ _ (whole c.before.before)
 
 -- by what the listing told
-outcome : (c : tie.After-first) {r : Listed} → r ≡ c.first.result → let s = begun (judged (asked c)) in
-    (told_by (number_by 12 r) (values_by r) ≡ tells (test s) (values s) (run s))
-    × (c.first.new.1.1.1.1.0 ≡ leaves (test s) (after s) (buffer s) (run s))
+outcome : (c : tie.After-first) {r : Listed} → r ≡ c.first.result → (told_by (number_by 12 r) (values_by r) ≡ tells (test c.before.before.before.before.before.before.before.before.before.before.before) (values c.before.before.before.before.before.before.before.before.before.before.before) (run c.before.before.before.before.before.before.before.before.before.before.before))
+    × (c.first.new.reading ≡ leaves (test c.before.before.before.before.before.before.before.before.before.before.before) (after c.before.before.before.before.before.before.before.before.before.before.before) (buffer c.before.before.before.before.before.before.before.before.before.before.before) (run c.before.before.before.before.before.before.before.before.before.before.before))
 outcome c e =
-    let k = asked c in
-    let s = begun (judged k) in
-    let n = first_number (chosen s (found k).X) (buffer s) in (
-      answer_told (columns s) (rest s) (chosen s) (buffer s) (found k) 12 n (answers c) e,
-      answer_left (columns s) (rest s) (chosen s) (buffer s) (found k) 12 n (answers c),
+    let s = c.before.before.before.before.before.before.before.before.before.before.before in
+    let n = first_number (chosen s (found c.before.before).X) (buffer s) in (
+      answer_told (columns s) (rest s) (chosen s) (buffer s) (found c.before.before) 12 n (answers c) e,
+      answer_left (columns s) (rest s) (chosen s) (buffer s) (found c.before.before) 12 n (answers c),
     )
 
-judge-list-requires : tie.Need-judge-list-requires
-judge-list-requires c κs = search rules
+judge_list-requires : tie.Need-judge_list-requires
+judge_list-requires c κs = search rules
 
-enum-known-number : tie.Need-enum-known-number
-enum-known-number c = search rules
+enum_known-number : tie.Need-enum_known-number
+enum_known-number c = search rules
 
-enum_told : tie.Need-enum-told
-enum_told c = search rules
+enum_told-1 : tie.Need-enum_told-1
+enum_told-1 c = search rules
 
 first-requires : tie.Need-first-requires
-first-requires c κs = let k = c.before in ((found k).X, text (begun (judged k)), whole k)
+first-requires c κs = ((found c.before).X, text c.before.before.before.before.before.before.before.before.before.before, whole c.before)
 
-enum-told-2 : tie.Need-enum-told-2
-enum-told-2 c = search rules
+enum_told-in-Nothing : tie.Need-enum_told-in-Nothing
+enum_told-in-Nothing c = search rules
 
-enum-told-3 : tie.Need-enum-told-3
-enum-told-3 c = search rules
+enum_told-in-Short : tie.Need-enum_told-in-Short
+enum_told-in-Short c = search rules
 
-enum-known-words : tie.Need-enum-known-words
-enum-known-words c = search rules
+enum_known-words : tie.Need-enum_known-words
+enum_known-words c = search rules
 
-cast-t18 : tie.Need-overflow-cast-t18
-cast-t18 c =
-    let d = c.before.before.before.before.before in
-    let k = asked d in
-    let s = begun (judged k) in
-    let X = (found k).X in
-    let (ws, is, n) = answer_words (chosen s X) (buffer s) (sym c.before.words.given.1 ∙ (answers d).answers) in
-    let a = s.args in
+overflow_cast-result : tie.Need-overflow_cast-result
+overflow_cast-result c =
+    let s = c.before.before.before.before.before.before.before.before.before.before.before.before.before.before in
+    let start = c.before.before.before.before.before in
+    let X = (found start).X in
+    let (ws, is, n) = answer_words (chosen s X) (buffer s) (sym c.in-Words.is ∙ (answers c.before.before.before).answers) in
+    let a = c.args in
     omega (
       arith,
       n,
-      first_fits X (good k).storable.dictionary (text s) ws is,
-      short_text X a.table.now (text s) a.states.now a.counts.now (found k).clear,
+      first_fits X (good start).storable.dictionary (text s) ws is,
+      short_text X a.table.now (text s) a.states.now a.counts.now (found start).clear,
     )
 
-returns : tie.Need-returns
-returns c =
-    let d = c.before.before.before in
-    let s = begun d in
-    let e = refused_before (columns s) (rest s) (run s) (sym c.before.number.given.1 ∙ d.judge-list.ensures) in
+returns-in-Refused : tie.Need-returns-in-Refused
+returns-in-Refused c =
+    let s = c.before.before.before.before.before.before.before.before.before in
+    let e = refused_before (columns s) (rest s) (run s) (sym c.in-Refused.is ∙ c.judge_list.ensures) in
     (tells_refused (test s) (values s) (run s) e, leaves_refused (test s) (after s) (buffer s) (run s) e)
 
-same_length : tie.Need-same-length
-same_length c = search rules
+shape_of-reading-in-Nothing : tie.Need-shape_of-reading-in-Nothing
+shape_of-reading-in-Nothing c = search rules
 
-returns_2 : tie.Need-returns-2
-returns_2 c =
-    outcome c.before.before.before.before (sym c.enum-told2.given.1)
+returns-in-Nothing : tie.Need-returns-in-Nothing
+returns-in-Nothing c =
+    outcome c.before.before.before (sym c.in-Nothing.is)
 
-same-length-2 : tie.Need-same-length-2
-same-length-2 c = search rules
+shape_of-reading-in-Short : tie.Need-shape_of-reading-in-Short
+shape_of-reading-in-Short c = search rules
 
-returns-3 : tie.Need-returns-3
-returns-3 c =
-    outcome c.before.before.before.before (sym c.enum-told3.given.1)
+returns-in-Short : tie.Need-returns-in-Short
+returns-in-Short c =
+    outcome c.before.before.before (sym c.in-Short.is)
 
-same-length-3 : tie.Need-same-length-3
-same-length-3 c = search rules
+shape_of-reading-in-Words : tie.Need-shape_of-reading-in-Words
+shape_of-reading-in-Words c = search rules
 
-returns-4 : tie.Need-returns-4
-returns-4 c =
-    outcome c.before.before.before.before.before (sym c.before.words.given.1)
+returns-in-Words : tie.Need-returns-in-Words
+returns-in-Words c =
+    outcome c.before.before.before (sym c.in-Words.is)
 
 pub first_spec : {M : Type 1} → statement M
 first_spec =
     tie.close
     (tie.spec
-    judge-list-requires
-    enum-known-number
-    enum_told
+    judge_list-requires
+    enum_known-number
+    enum_told-1
     first-requires
-    enum-told-2
-    enum-told-3
-    enum-known-words
-    cast-t18
-    returns
-    same_length
-    returns_2
-    same-length-2
-    returns-3
-    same-length-3
-    returns-4)
+    enum_told-in-Nothing
+    enum_told-in-Short
+    enum_known-words
+    overflow_cast-result
+    returns-in-Refused
+    shape_of-reading-in-Nothing
+    returns-in-Nothing
+    shape_of-reading-in-Short
+    returns-in-Short
+    shape_of-reading-in-Words
+    returns-in-Words)

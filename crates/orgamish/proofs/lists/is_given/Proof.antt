@@ -9,26 +9,22 @@ use Rattle.meaning.specs.Listing.{is_reading}
 use Rattle.orgamish.proofs.lists.is_given.Statement.{statement}
 use Rattle.orgamish.proofs.lists.is_given.Tie as tie
 
-abbrev begun : tie.Else1 → tie.Start
-begun c = c.before.before.before.before
+returns-then-reading-given : tie.Need-returns-then-reading-given
+returns-then-reading-given c = λ X t s m.
+    let a = c.args in
+    let r = is_reading X t (take a.given a.reading.now) in
+    ap (λ (q : Bool). if q then false else r) (sym (lt-ltb (length a.reading.now) a.given (omega (arith, c.if-reading-given.true))))
+
+is_reading-requires : tie.Need-is_reading-requires
+is_reading-requires c κs =
+    let (X, t, s, m) = c.requires in (X, t, record { stated = s; long = m; room = omega (arith, c.if-reading-given.false) })
 
 returns : tie.Need-returns
 returns c = λ X t s m.
-    let a = c.before.before.before.before.args in
+    let a = c.args in
     let r = is_reading X t (take a.given a.reading.now) in
-    ap (λ (q : Bool). if q then false else r) (sym (lt-ltb (length a.reading.now) a.given (omega (arith, c.if1.true))))
+    c.is_reading.ensures X t (record { stated = s; long = m; room = omega (arith, c.if-reading-given.false) })
+    ∙ ap (λ (q : Bool). if q then false else r) (sym (le-ltb (length a.reading.now) a.given (omega (arith, c.if-reading-given.false))))
 
-is-reading-requires : tie.Need-is-reading-requires
-is-reading-requires c κs =
-    let (X, t, s, m) = (begun c).requires in (X, t, record { stated = s; long = m; room = omega (arith, c.if1.false) })
-
-returns_2 : tie.Need-returns-2
-returns_2 c = λ X t s m.
-    let d = c.before in
-    let a = (begun d).args in
-    let r = is_reading X t (take a.given a.reading.now) in
-    c.is-reading.ensures X t (record { stated = s; long = m; room = omega (arith, d.if1.false) })
-    ∙ ap (λ (q : Bool). if q then false else r) (sym (le-ltb (length a.reading.now) a.given (omega (arith, d.if1.false))))
-
-pub is-given-spec : {M : Type 1} → statement M
-is-given-spec = tie.close (tie.spec returns is-reading-requires returns_2)
+pub is_given_spec : {M : Type 1} → statement M
+is_given_spec = tie.close (tie.spec returns-then-reading-given is_reading-requires returns)

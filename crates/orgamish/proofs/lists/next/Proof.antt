@@ -28,9 +28,6 @@ use Rattle.orgamish.proofs.Listings.{number_by, values_by, next_number, answer_t
 use Rattle.orgamish.proofs.lists.next.Statement.{statement}
 use Rattle.orgamish.proofs.lists.next.Tie as tie
 
-abbrev begun : tie.After-judge-list → tie.Start
-begun c = c.before.before.before.before.before.before.before.before
-
 abbrev text : tie.Start → Word
 text s = mapped s.args.map.now s.args.text.now
 
@@ -63,30 +60,28 @@ values s X = length_of (chosen s X)
 abbrev after : tie.Start → Words → List ℕ
 after s X = listed (chosen s X) (buffer s)
 
-abbrev judged : tie.After-enum-told → tie.After-judge-list
-judged c = c.before.before
+abbrev begun : tie.In-Passed → tie.Start
+begun c = c.before.before.before.before.before.before.before.before.before
 
-found : (c : tie.After-enum-told) → let s = begun (judged c) in Passes (columns s) (run s)
+found : (c : tie.In-Passed) → Passes (columns (begun c)) (run (begun c))
 found c =
-    let s = begun (judged c) in
-    passes (columns s) (run s) (sym c.enum_told.given.1 ∙ (judged c).judge-list.ensures)
+    let s = begun c in
+    passes (columns s) (run s) (sym c.in-Passed.is ∙ c.judge_list.ensures)
 
-good : (c : tie.After-enum-told) → Allowed (found c).X
+good : (c : tie.In-Passed) → Allowed (found c).X
 good c =
-    let d = judged c in
-    let a = (begun d).args in
+    let a = c.args in
     passed_allowed a.map.now a.dict.now
-    (λ x. omega (arith, d.before.before.before.before.before.before.before.shared-slice-known.given x)) (found c)
+    (λ x. omega (arith, c.shared_slice_known-1.given x)) (found c)
 
-whole : (c : tie.After-enum-told) → let s = begun (judged c) in
-    Whole (found c).X (text s) s.args.table.now s.args.states.now s.args.counts.now (length s.args.text.now)
+whole : (c : tie.In-Passed) → Whole (found c).X (text (begun c)) c.args.table.now c.args.states.now c.args.counts.now (length c.args.text.now)
 whole c =
-    let a = (begun (judged c)).args in
+    let a = c.args in
     record { scanned = scanned (good c) (found c).clear; long = sym (mapped_size a.map.now a.text.now) }
 
-came : (c : tie.After-enum-told) {n : ℕ} → let s = begun (judged c) in rest s (found c).X ≡ n → Came (test s) (run s) (found c).X n
+came : (c : tie.In-Passed) {n : ℕ} → rest (begun c) (found c).X ≡ n → Came (test (begun c)) (run (begun c)) (found c).X n
 came c e =
-    let s = begun (judged c) in
+    let s = begun c in
     let X = (found c).X in
     record { end = (found c).end; is = (found c).is; comes = then_comes (columns s X) (rest s X) (found c).clear e }
 
@@ -95,156 +90,138 @@ by_given : (s : tie.Start) (X : Words) {b : Bool} → is_given X (text s) (buffe
     → rest s X ≡ (if b then 0 else 13) and_then fit_refusal (chosen s X) (buffer s)
 by_given s X e = ap (λ (q : Bool). (if q then 0 else 13) and_then fit_refusal (chosen s X) (buffer s)) e
 
-offered : (c : tie.After-enum-told) → let s = begun (judged c) in
-    Stated (found c).X (text s) s.args.table.now s.args.states.now
+offered : (c : tie.In-Passed) → Stated (found c).X (text (begun c)) c.args.table.now c.args.states.now
 offered c = let w = whole c in record { table = w.scanned.table; states = w.scanned.columns.states }
 
-abbrev looked : tie.After-is-given → tie.After-enum-told
-looked c = c.before.before
-
-is : (c : tie.Else1) → let k = looked c.before in
-    let s = begun (judged k) in is_given (found k).X (text s) (buffer s) s.args.given ≡ true
+is : (c : tie.Else-not-is_given) → is_given (found c.before.before).X (text (begun c.before.before)) (buffer (begun c.before.before)) c.args.given ≡ true
 is c =
-    let d = c.before in
-    let k = looked d in
-    sym (d.is-given.ensures _ _ (offered k) (whole k).long) ∙ not-false _ c.if1.false
+    sym (c.is_given.ensures _ _ (offered c.before.before) (whole c.before.before).long) ∙ not-false _ c.if-not-is_given.false-raw
 
-giving : (c : tie.Else1) → let k = looked c.before in
-    let s = begun (judged k) in
-    Giving (found k).X (text s) s.args.table.now s.args.states.now s.args.counts.now (length s.args.text.now)
-    (buffer s) s.args.given
+giving : (c : tie.Else-not-is_given) → Giving (found c.before.before).X (text (begun c.before.before)) c.args.table.now c.args.states.now c.args.counts.now (length c.args.text.now)
+    (buffer (begun c.before.before)) c.args.given
 giving c =
-    let k = looked c.before in
-    let s = begun (judged k) in
-    let (room, reads) = given_reads (found k).X (text s) (buffer s) s.args.given (is c) in
-    record { whole = whole k; room = room; reads = (is_reading_is (found k).X (text s) (given s)).0 reads }
+    let s = begun c.before.before in
+    let (room, reads) = given_reads (found c.before.before).X (text s) (buffer s) c.args.given (is c) in
+    record { whole = whole c.before.before; room = room; reads = (is_reading_is (found c.before.before).X (text s) (given s)).0 reads }
 
-abbrev passed_by : tie.After-next → tie.Else1
-passed_by c = c.before.before
+abbrev asked : tie.After-next → tie.In-Passed
+asked c = c.before.before.before.before
 
-abbrev asked : tie.After-next → tie.After-enum-told
-asked c = looked (passed_by c).before
-
-answers : (c : tie.After-next) → let s = begun (judged (asked c)) in
-    Answers (chosen s (found (asked c)).X) (buffer s) c.next.new.1.1.1.1.0 c.next.result
-answers c = c.next.ensures _ _ (giving (passed_by c))
+answers : (c : tie.After-next) → let s = begun (asked c) in
+    Answers (chosen s (found (asked c)).X) (buffer s) c.next.new.reading c.next.result
+answers c = c.next.ensures _ _ (giving c.before.before)
 
 -- by what the listing told
-outcome : (c : tie.After-next) {r : Listed} → r ≡ c.next.result → let s = begun (judged (asked c)) in
+outcome : (c : tie.After-next) {r : Listed} → r ≡ c.next.result → let s = begun (asked c) in
     (told_by (number_by 0 r) (values_by r) ≡ tells (test s) (values s) (run s))
-    × (c.next.new.1.1.1.1.0 ≡ leaves (test s) (after s) (buffer s) (run s))
+    × (c.next.new.reading ≡ leaves (test s) (after s) (buffer s) (run s))
 outcome c e =
     let k = asked c in
-    let s = begun (judged k) in
+    let s = begun k in
     let X = (found k).X in
-    let n = by_given s X (is (passed_by c)) ∙ next_number (chosen s X) (buffer s) in (
+    let n = by_given s X (is c.before.before) ∙ next_number (chosen s X) (buffer s) in (
       answer_told (columns s) (rest s) (chosen s) (buffer s) (found k) 0 n (answers c) e,
       answer_left (columns s) (rest s) (chosen s) (buffer s) (found k) 0 n (answers c),
     )
 
-judge-list-requires : tie.Need-judge-list-requires
-judge-list-requires c κs = search rules
+judge_list-requires : tie.Need-judge_list-requires
+judge_list-requires c κs = search rules
 
-enum-known-number : tie.Need-enum-known-number
-enum-known-number c = search rules
+enum_known-number : tie.Need-enum_known-number
+enum_known-number c = search rules
 
-enum_told : tie.Need-enum-told
-enum_told c = search rules
+enum_told-1 : tie.Need-enum_told-1
+enum_told-1 c = search rules
 
-is-given-requires : tie.Need-is-given-requires
-is-given-requires c κs =
-    let k = c.before in ((found k).X, text (begun (judged k)), offered k, (whole k).long)
+is_given-requires : tie.Need-is_given-requires
+is_given-requires c κs =
+    ((found c).X, text (begun c), offered c, (whole c).long)
 
-same_length : tie.Need-same-length
-same_length c = search rules
+shape_of-reading-then-not-is_given : tie.Need-shape_of-reading-then-not-is_given
+shape_of-reading-then-not-is_given c = search rules
 
-returns : tie.Need-returns
-returns c =
-    let d = c.before in
-    let k = looked d in
-    let s = begun (judged k) in
-    let X = (found k).X in
-    let no = sym (d.is-given.ensures X (text s) (offered k) (whole k).long) ∙ not-true _ c.if1.true in
-    let w = came k (by_given s X no) in
+returns-then-not-is_given : tie.Need-returns-then-not-is_given
+returns-then-not-is_given c =
+    let s = begun c.before.before in
+    let X = (found c.before.before).X in
+    let no = sym (c.is_given.ensures X (text s) (offered c.before.before) (whole c.before.before).long) ∙ not-true _ c.if-not-is_given.true-raw in
+    let w = came c.before.before (by_given s X no) in
     (came_tells w (values s), came_leaves w (after s) (buffer s))
 
 next-requires : tie.Need-next-requires
 next-requires c κs =
-    let e = c.before in
-    let k = looked e.before in
-    ((found k).X, text (begun (judged k)), giving e)
+    ((found c.before.before.before).X, text (begun c.before.before.before), giving c.before)
 
-enum-told-2 : tie.Need-enum-told-2
-enum-told-2 c = search rules
+enum_told-in-Nothing : tie.Need-enum_told-in-Nothing
+enum_told-in-Nothing c = search rules
 
-enum-told-3 : tie.Need-enum-told-3
-enum-told-3 c = search rules
+enum_told-in-Short : tie.Need-enum_told-in-Short
+enum_told-in-Short c = search rules
 
-enum-known-words : tie.Need-enum-known-words
-enum-known-words c = search rules
+enum_known-words : tie.Need-enum_known-words
+enum_known-words c = search rules
 
-cast-t23 : tie.Need-overflow-cast-t23
-cast-t23 c =
-    let d = c.before.before.before.before.before in
-    let k = asked d in
-    let s = begun (judged k) in
+overflow_cast-result : tie.Need-overflow_cast-result
+overflow_cast-result c =
+    let at = c.before.before.before in
+    let k = asked at in
+    let s = begun k in
     let X = (found k).X in
     let a = s.args in
-    let (ws, is, n) = answer_words (chosen s X) (buffer s) (sym c.before.words.given.1 ∙ (answers d).answers) in
+    let (ws, is, n) = answer_words (chosen s X) (buffer s) (sym c.in-Words.is ∙ (answers at).answers) in
     omega (
       arith,
       n,
-      next_fits X (good k).storable.dictionary (text s) (given s) ws (giving (passed_by d)).reads is,
+      next_fits X (good k).storable.dictionary (text s) (given s) ws (giving c.before.before.before.before.before).reads is,
       short_text X a.table.now (text s) a.states.now a.counts.now (found k).clear,
     )
 
-returns_2 : tie.Need-returns-2
-returns_2 c =
-    let d = c.before.before.before in
-    let s = begun d in
-    let e = refused_before (columns s) (rest s) (run s) (sym c.before.number.given.1 ∙ d.judge-list.ensures) in
+returns-in-Refused : tie.Need-returns-in-Refused
+returns-in-Refused c =
+    let s = c.before.before.before.before.before.before.before.before.before in
+    let e = refused_before (columns s) (rest s) (run s) (sym c.in-Refused.is ∙ c.judge_list.ensures) in
     (tells_refused (test s) (values s) (run s) e, leaves_refused (test s) (after s) (buffer s) (run s) e)
 
-same-length-2 : tie.Need-same-length-2
-same-length-2 c = search rules
+shape_of-reading-in-Nothing : tie.Need-shape_of-reading-in-Nothing
+shape_of-reading-in-Nothing c = search rules
 
-returns-3 : tie.Need-returns-3
-returns-3 c =
-    outcome c.before.before.before.before (sym c.enum-told2.given.1)
+returns-in-Nothing : tie.Need-returns-in-Nothing
+returns-in-Nothing c =
+    outcome c.before.before.before (sym c.in-Nothing.is)
 
-same-length-3 : tie.Need-same-length-3
-same-length-3 c = search rules
+shape_of-reading-in-Short : tie.Need-shape_of-reading-in-Short
+shape_of-reading-in-Short c = search rules
 
-returns-4 : tie.Need-returns-4
-returns-4 c =
-    outcome c.before.before.before.before (sym c.enum-told3.given.1)
+returns-in-Short : tie.Need-returns-in-Short
+returns-in-Short c =
+    outcome c.before.before.before (sym c.in-Short.is)
 
-same-length-4 : tie.Need-same-length-4
-same-length-4 c = search rules
+shape_of-reading-in-Words : tie.Need-shape_of-reading-in-Words
+shape_of-reading-in-Words c = search rules
 
-returns-5 : tie.Need-returns-5
-returns-5 c =
-    outcome c.before.before.before.before.before (sym c.before.words.given.1)
+returns-in-Words : tie.Need-returns-in-Words
+returns-in-Words c =
+    outcome c.before.before.before (sym c.in-Words.is)
 
-pub next-spec : {M : Type 1} → statement M
-next-spec =
+pub next_spec : {M : Type 1} → statement M
+next_spec =
     tie.close
     (tie.spec
-    judge-list-requires
-    enum-known-number
-    enum_told
-    is-given-requires
-    same_length
-    returns
+    judge_list-requires
+    enum_known-number
+    enum_told-1
+    is_given-requires
+    shape_of-reading-then-not-is_given
+    returns-then-not-is_given
     next-requires
-    enum-told-2
-    enum-told-3
-    enum-known-words
-    cast-t23
-    returns_2
-    same-length-2
-    returns-3
-    same-length-3
-    returns-4
-    same-length-4
-    returns-5)
+    enum_told-in-Nothing
+    enum_told-in-Short
+    enum_known-words
+    overflow_cast-result
+    returns-in-Refused
+    shape_of-reading-in-Nothing
+    returns-in-Nothing
+    shape_of-reading-in-Short
+    returns-in-Short
+    shape_of-reading-in-Words
+    returns-in-Words)

@@ -23,9 +23,6 @@ use Rattle.orgamish.proofs.Placings.{placed_number, placed_values, many_told, pl
 use Rattle.orgamish.proofs.numbers.place.Statement.{statement}
 use Rattle.orgamish.proofs.numbers.place.Tie as tie
 
-abbrev begun : tie.After-judge-count → tie.Start
-begun c = c.before.before.before.before.before.before.before.before
-
 abbrev text : tie.Start → Word
 text s = mapped s.args.map.now s.args.text.now
 
@@ -47,91 +44,77 @@ run s = words_under s.args.map.now s.args.dict.now
 abbrev values : tie.Start → Words → List ℕ
 values s X = number_of (find (readings X (text s)) (take s.args.given (buffer s)))
 
-abbrev judged : tie.After-enum-told → tie.After-judge-count
-judged c = c.before.before
-
-found : (c : tie.After-enum-told) → let s = begun (judged c) in Passes (counted s) (run s)
+found : (c : tie.In-Passed) → Passes (counted c.before.before.before.before.before.before.before.before.before) (run c.before.before.before.before.before.before.before.before.before)
 found c =
-    let s = begun (judged c) in
-    passes (counted s) (run s) (sym c.enum_told.given.1 ∙ (judged c).judge-count.ensures)
+    let s = c.before.before.before.before.before.before.before.before.before in
+    passes (counted s) (run s) (sym c.in-Passed.is ∙ c.judge_count.ensures)
 
-good : (c : tie.After-enum-told) → Allowed (found c).X
+good : (c : tie.In-Passed) → Allowed (found c).X
 good c =
-    let d = judged c in
-    let a = (begun d).args in
+    let a = c.args in
     passed_allowed a.map.now a.dict.now
-    (λ x. omega (arith, d.before.before.before.before.before.before.before.shared-slice-known.given x)) (found c)
+    (λ x. omega (arith, c.shared_slice_known-1.given x)) (found c)
 
-exact : (c : tie.After-enum-told) → let s = begun (judged c) in
-    Exactly (found c).X (text s) s.args.table.now s.args.states.now s.args.counts.now (length s.args.text.now)
+exact : (c : tie.In-Passed) → Exactly (found c).X (text c.before.before.before.before.before.before.before.before.before) c.args.table.now c.args.states.now c.args.counts.now (length c.args.text.now)
 exact c =
-    let s = begun (judged c) in
-    let a = s.args in
-    exactly (found c).X a.table.now (text s) a.states.now a.counts.now (found c).clear (good c)
+    let a = c.args in
+    exactly (found c).X a.table.now (text c.before.before.before.before.before.before.before.before.before) a.states.now a.counts.now (found c).clear (good c)
     (sym (mapped_size a.map.now a.text.now))
 
-abbrev asked : tie.After-place → tie.After-enum-told
-asked c = c.before.before
-
 -- by what was found
-outcome : (c : tie.After-place) {r : Placed} → r ≡ c.place.result → let s = begun (judged (asked c)) in
-    told_by (placed_number r) (placed_values r) ≡ tells (test s) (values s) (run s)
+outcome : (c : tie.After-place) {r : Placed} → r ≡ c.place.result → told_by (placed_number r) (placed_values r) ≡ tells (test c.before.before.before.before.before.before.before.before.before.before.before) (values c.before.before.before.before.before.before.before.before.before.before.before) (run c.before.before.before.before.before.before.before.before.before.before.before)
 outcome c e =
-    let k = asked c in
-    let s = begun (judged k) in
-    place_told_lem (counted s) (text s) (buffer s) s.args.given (found k) (good k).storable.dictionary c.before.if1.false
-    (e ∙ c.place.ensures _ _ (exact k))
+    let s = c.before.before.before.before.before.before.before.before.before.before.before in
+    place_told_lem (counted s) (text s) (buffer s) c.args.given (found c.before.before) (good c.before.before).storable.dictionary c.if-reading-given.false
+    (e ∙ c.place.ensures _ _ (exact c.before.before))
 
-judge-count-requires : tie.Need-judge-count-requires
-judge-count-requires c κs = search rules
+judge_count-requires : tie.Need-judge_count-requires
+judge_count-requires c κs = search rules
 
-enum-known-number : tie.Need-enum-known-number
-enum-known-number c = search rules
+enum_known-number : tie.Need-enum_known-number
+enum_known-number c = search rules
 
-enum_told : tie.Need-enum-told
-enum_told c = search rules
+enum_told-1 : tie.Need-enum_told-1
+enum_told-1 c = search rules
 
-returns : tie.Need-returns
-returns c =
-    let k = c.before in
-    let s = begun (judged k) in
-    many_told (counted s) (text s) (buffer s) s.args.given (found k) c.if1.true
+returns-then-reading-given : tie.Need-returns-then-reading-given
+returns-then-reading-given c =
+    let s = c.before.before.before.before.before.before.before.before.before.before in
+    many_told (counted s) (text s) (buffer s) c.args.given (found c.before) c.if-reading-given.true
 
 place-requires : tie.Need-place-requires
 place-requires c κs =
-    let k = c.before in
-    ((found k).X, text (begun (judged k)), exact k, c.if1.false)
+    ((found c.before).X, text c.before.before.before.before.before.before.before.before.before.before, exact c.before, c.if-reading-given.false)
 
-enum-told-2 : tie.Need-enum-told-2
-enum-told-2 c = search rules
+enum_told-in-Nowhere : tie.Need-enum_told-in-Nowhere
+enum_told-in-Nowhere c = search rules
 
-enum-known-n : tie.Need-enum-known-n
-enum-known-n c = search rules
+enum_known-n : tie.Need-enum_known-n
+enum_known-n c = search rules
 
-returns_2 : tie.Need-returns-2
-returns_2 c =
-    let d = c.before.before.before in
-    let s = begun d in
-    let e = refused_before (counted s) (rest s) (run s) (sym c.before.number.given.1 ∙ d.judge-count.ensures) in
+returns-in-Refused : tie.Need-returns-in-Refused
+returns-in-Refused c =
+    let s = c.before.before.before.before.before.before.before.before.before in
+    let e = refused_before (counted s) (rest s) (run s) (sym c.in-Refused.is ∙ c.judge_count.ensures) in
     tells_refused (test s) (values s) (run s) e
 
-returns-3 : tie.Need-returns-3
-returns-3 c = outcome c.before.before (sym c.enum-told2.given.1)
+returns-in-Nowhere : tie.Need-returns-in-Nowhere
+returns-in-Nowhere c = outcome c.before (sym c.in-Nowhere.is)
 
-returns-4 : tie.Need-returns-4
-returns-4 c = outcome c.before.before.before (sym c.before.n.given.1)
+returns-in-At : tie.Need-returns-in-At
+returns-in-At c = outcome c.before (sym c.in-At.is)
 
-pub place-spec : {M : Type 1} → statement M
-place-spec =
+pub place_spec : {M : Type 1} → statement M
+place_spec =
     tie.close
     (tie.spec
-    judge-count-requires
-    enum-known-number
-    enum_told
-    returns
+    judge_count-requires
+    enum_known-number
+    enum_told-1
+    returns-then-reading-given
     place-requires
-    enum-told-2
-    enum-known-n
-    returns_2
-    returns-3
-    returns-4)
+    enum_told-in-Nowhere
+    enum_known-n
+    returns-in-Refused
+    returns-in-Nowhere
+    returns-in-At)

@@ -23,9 +23,6 @@ use Rattle.orgamish.proofs.Called.{Came, came_tells, came_leaves, tells_refused,
 use Rattle.orgamish.proofs.scans.scan.Statement.{statement}
 use Rattle.orgamish.proofs.scans.scan.Tie as tie
 
-abbrev begun : tie.After-judge-scan → tie.Start
-begun c = c.before.before.before.before.before.before.before.before.before
-
 abbrev text : tie.Start → Word
 text s = mapped s.args.map.now s.args.text.now
 
@@ -51,106 +48,94 @@ states s X = over (state_column X (text s)) (ss s)
 abbrev counts : tie.Start → Words → List ℕ
 counts s X = over (count_column X (text s)) (cs s)
 
-abbrev judged : tie.After-enum-told → tie.After-judge-scan
-judged c = c.before.before
-
-found : (c : tie.After-enum-told) → let s = begun (judged c) in Passes (test s) (run s)
+found : (c : tie.In-Passed) → Passes (test c.before.before.before.before.before.before.before.before) (run c.before.before.before.before.before.before.before.before)
 found c =
-    let s = begun (judged c) in
-    passes (test s) (run s) (sym c.enum_told.given.1 ∙ (judged c).judge-scan.ensures)
+    let s = c.before.before.before.before.before.before.before.before in
+    passes (test s) (run s) (sym c.in-Passed.is ∙ c.judge_scan.ensures)
 
-fits : (c : tie.After-enum-told) → let s = begun (judged c) in
-    Room (found c).X (text s) s.args.table.now (ss s) (cs s)
+fits : (c : tie.In-Passed) → Room (found c).X (text c.before.before.before.before.before.before.before.before) c.args.table.now (ss c.before.before.before.before.before.before.before.before) (cs c.before.before.before.before.before.before.before.before)
 fits c =
-    let d = judged c in
-    let a = (begun d).args in
+    let a = c.args in
     room
     (passed_allowed a.map.now a.dict.now
-    (λ x. omega (arith, d.before.before.before.before.before.before.before.before.shared-slice-known.given x)) (found c))
+    (λ x. omega (arith, c.shared_slice_known-1.given x)) (found c))
     (found c).clear
 
-came : (c : tie.After-enum-told) → let s = begun (judged c) in Came (test s) (run s) (found c).X 0
+came : (c : tie.In-Passed) → Came (test c.before.before.before.before.before.before.before.before) (run c.before.before.before.before.before.before.before.before) (found c).X 0
 came c = record { end = (found c).end; is = (found c).is; comes = (found c).clear }
 
-judge-scan-requires : tie.Need-judge-scan-requires
-judge-scan-requires c κs = search rules
+judge_scan-requires : tie.Need-judge_scan-requires
+judge_scan-requires c κs = search rules
 
-enum-known-number : tie.Need-enum-known-number
-enum-known-number c = search rules
+enum_known-number : tie.Need-enum_known-number
+enum_known-number c = search rules
 
-enum_told : tie.Need-enum-told
-enum_told c = search rules
+enum_told-1 : tie.Need-enum_told-1
+enum_told-1 c = search rules
 
-abbrev asked : tie.After-scan → tie.After-enum-told
-asked c = c.before.before.before
-
-scans : (c : tie.After-scan) → let s = begun (judged (asked c)) in
-    let r = c.scan.result in
-    Scans (found (asked c)).X (text s) (ss s) c.scan.new.1.1.1.0 (cs s) c.scan.new.1.1.1.1.0
+scans : (c : tie.After-scan-found) → let r = c.scan-found.result in
+    Scans (found c.before.before.before).X (text c.before.before.before.before.before.before.before.before.before.before.before) (ss c.before.before.before.before.before.before.before.before.before.before.before) c.scan-found.new.states (cs c.before.before.before.before.before.before.before.before.before.before.before) c.scan-found.new.counts
     r.farthest r.count r.probes
-scans c = c.scan.ensures _ (fits (asked c))
+scans c = c.scan-found.ensures _ (fits c.before.before.before)
 
-scan-requires : tie.Need-scan-requires
-scan-requires c κs = ((found c.before.before).X, fits c.before.before)
+scan-found-requires : tie.Need-scan-found-requires
+scan-found-requires c κs = ((found c.before.before).X, fits c.before.before)
 
-cast-t21 : tie.Need-overflow-cast-t21
-cast-t21 c =
-    let d = c.before.before.before.before.before.before in
-    let k = asked d in
-    omega (arith, (scans d).far, farthest_within (found k).X (text (begun (judged k))), (fits k).short)
+overflow_cast-result : tie.Need-overflow_cast-result
+overflow_cast-result c =
+    let s = c.before.before.before.before.before.before.before.before.before in
+    omega (arith, (scans c.before.before.before.before.before.before).far, farthest_within (found s).X (text c.before.before.before.before.before.before.before.before.before.before.before.before.before.before.before.before.before), (fits s).short)
 
-same_length : tie.Need-same-length
-same_length c = search rules
+shape_of-states-in-Refused : tie.Need-shape_of-states-in-Refused
+shape_of-states-in-Refused c = search rules
 
-same-length-2 : tie.Need-same-length-2
-same-length-2 c = search rules
+shape_of-counts-in-Refused : tie.Need-shape_of-counts-in-Refused
+shape_of-counts-in-Refused c = search rules
 
-returns : tie.Need-returns
-returns c =
-    let d = c.before.before.before in
-    let s = begun d in
-    let e = sym c.before.number.given.1 ∙ d.judge-scan.ensures in (
+returns-in-Refused : tie.Need-returns-in-Refused
+returns-in-Refused c =
+    let s = c.before.before.before.before.before.before.before.before in
+    let e = sym c.in-Refused.is ∙ c.judge_scan.ensures in (
       tells_refused (test s) (values s) (run s) e,
       leaves_refused (test s) (states s) (ss s) (run s) e,
       leaves_refused (test s) (counts s) (cs s) (run s) e,
     )
 
-same-length-3 : tie.Need-same-length-3
-same-length-3 c = search rules
+shape_of-states-in-Passed : tie.Need-shape_of-states-in-Passed
+shape_of-states-in-Passed c = search rules
 
-same-length-4 : tie.Need-same-length-4
-same-length-4 c = search rules
+shape_of-counts-in-Passed : tie.Need-shape_of-counts-in-Passed
+shape_of-counts-in-Passed c = search rules
 
-returns_2 : tie.Need-returns-2
-returns_2 c =
-    let d = c.before.before.before.before.before.before in
-    let k = asked d in
-    let s = begun (judged k) in
-    let X = (found k).X in
-    let r = d.scan.result in
-    let w = scans d in
+returns-in-Passed : tie.Need-returns-in-Passed
+returns-in-Passed c =
+    let s = c.before.before.before.before.before.before.before.before.before.before.before.before.before.before.before.before.before in
+    let start = c.before.before.before.before.before.before.before.before.before in
+    let X = (found start).X in
+    let r = c.scan-found.result in
+    let w = scans c.before.before.before.before.before.before in
     let far = w.far in
     let count = w.count in
     let probed = w.probed in
     let yes : ltb 0 r.count ≡ accepted X (text s) = ap (ltb 0) count ∙ counted_accepted X (text s) in
     let same : answer (flag (ltb 0 r.count) ∷ r.farthest ∷ r.count ∷ r.probes ∷ []) ≡ answer (values s X) = cc in (
-      same ∙ came_tells (came k) (values s),
-      w.states ∙ came_leaves (came k) (states s) (ss s),
-      w.counts ∙ came_leaves (came k) (counts s) (cs s),
+      same ∙ came_tells (came start) (values s),
+      w.states ∙ came_leaves (came start) (states s) (ss s),
+      w.counts ∙ came_leaves (came start) (counts s) (cs s),
     )
 
-pub scan-spec : {M : Type 1} → statement M
-scan-spec =
+pub scan_spec : {M : Type 1} → statement M
+scan_spec =
     tie.close
     (tie.spec
-    judge-scan-requires
-    enum-known-number
-    enum_told
-    scan-requires
-    cast-t21
-    same_length
-    same-length-2
-    returns
-    same-length-3
-    same-length-4
-    returns_2)
+    judge_scan-requires
+    enum_known-number
+    enum_told-1
+    scan-found-requires
+    overflow_cast-result
+    shape_of-states-in-Refused
+    shape_of-counts-in-Refused
+    returns-in-Refused
+    shape_of-states-in-Passed
+    shape_of-counts-in-Passed
+    returns-in-Passed)

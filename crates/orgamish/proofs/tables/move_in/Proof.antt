@@ -15,9 +15,6 @@ use Rattle.orgamish.proofs.Called.{tells_refused, leaves_refused, then_tells, th
 use Rattle.orgamish.proofs.tables.move_in.Statement.{statement}
 use Rattle.orgamish.proofs.tables.move_in.Tie as tie
 
-abbrev entry : tie.After-judge-rows → tie.Start
-entry c = c.before.before.before.before.before
-
 abbrev run : tie.Start → Run
 run s = words_under s.args.map.now s.args.dict.now
 
@@ -34,49 +31,46 @@ room s X = build_refusal (table_in s.args.form X) (lent s)
 abbrev after : tie.Start → Words → List ℕ
 after s X = over (table_in s.args.form X) (lent s)
 
-judge-rows-requires : tie.Need-judge-rows-requires
-judge-rows-requires c κs = search rules
+judge_rows-requires : tie.Need-judge_rows-requires
+judge_rows-requires c κs = search rules
 
-enum-known-number : tie.Need-enum-known-number
-enum-known-number c = search rules
+enum_known-number : tie.Need-enum_known-number
+enum_known-number c = search rules
 
-enum_told : tie.Need-enum-told
-enum_told c = search rules
+enum_told-1 : tie.Need-enum_told-1
+enum_told-1 c = search rules
 
-build-in-requires : tie.Need-build-in-requires
-build-in-requires c κs = search rules
+build_in-requires : tie.Need-build_in-requires
+build_in-requires c κs = search rules
 
-returns : tie.Need-returns
-returns c =
-    let d = c.before.before.before in
-    let s = entry d in
-    let e = refused_before (input s) (room s) (run s) (sym c.before.number.given.1 ∙ d.judge-rows.ensures) in (
+returns-in-Refused : tie.Need-returns-in-Refused
+returns-in-Refused c =
+    let s = c.before.before.before.before.before.before in
+    let e = refused_before (input s) (room s) (run s) (sym c.in-Refused.is ∙ c.judge_rows.ensures) in (
       tells_refused (λ X. input s X and_then room s X) measures (run s) e,
       leaves_refused (λ X. input s X and_then room s X) (after s) (lent s) (run s) e,
     )
 
-same_length : tie.Need-same-length
-same_length c = search rules
+shape_of-table : tie.Need-shape_of-table
+shape_of-table c = search rules
 
-returns_2 : tie.Need-returns-2
-returns_2 c =
-    let chosen = c.before.before.before.before in
-    let d = chosen.before.before in
-    let s = entry d in
-    let built = c.before.before.build-in.ensures in
-    let p : Passes (input s) (run s) = passes (input s) (run s) (sym chosen.enum_told.given.1 ∙ d.judge-rows.ensures) in (
+returns-in-Passed : tie.Need-returns-in-Passed
+returns-in-Passed c =
+    let s = c.before.before.before.before.before.before.before.before.before.before in
+    let built = c.build_in.ensures in
+    let p : Passes (input s) (run s) = passes (input s) (run s) (sym c.in-Passed.is ∙ c.judge_rows.ensures) in (
       built.0 ∙ then_tells (input s) (room s) (run s) p measures,
       built.1 ∙ then_leaves (input s) (room s) (run s) p (after s) (lent s),
     )
 
-pub move-in-spec : {M : Type 1} → statement M
-move-in-spec =
+pub move_in_spec : {M : Type 1} → statement M
+move_in_spec =
     tie.close
     (tie.spec
-    judge-rows-requires
-    enum-known-number
-    enum_told
-    build-in-requires
-    returns
-    same_length
-    returns_2)
+    judge_rows-requires
+    enum_known-number
+    enum_told-1
+    build_in-requires
+    returns-in-Refused
+    shape_of-table
+    returns-in-Passed)
