@@ -4,14 +4,14 @@ use Rattle.orgamish_c.proofs.Passing.{passed_as}
 use Rattle.orgamish_c.proofs.books.orgamish_check_book.Statement.{statement}
 use Rattle.orgamish_c.proofs.books.orgamish_check_book.Tie as tie
 
-check-book-requires : tie.Need-check-book-requires
-check-book-requires c κs = search rules
+check_book-requires : tie.Need-check_book-requires
+check_book-requires c κs = search rules
 
 pass-requires : tie.Need-pass-requires
 pass-requires c κs = search rules
 
 returns : tie.Need-returns
-returns c = passed_as c.before.before.check-book.ensures c.pass.ensures
+returns c = passed_as c.check_book.ensures c.pass.ensures
 
-pub orgamish-check-book-spec : {M : Type 1} → statement M
-orgamish-check-book-spec = tie.close (tie.spec check-book-requires pass-requires returns)
+pub orgamish_check_book_spec : {M : Type 1} → statement M
+orgamish_check_book_spec = tie.close (tie.spec check_book-requires pass-requires returns)

@@ -6,39 +6,39 @@ use Rattle.orgamish_c.proofs.Passing.{passed_as}
 use Rattle.orgamish_c.proofs.books.pass.Statement.{statement}
 use Rattle.orgamish_c.proofs.books.pass.Tie as tie
 
-enum-known-checked : tie.Need-enum-known-checked
-enum-known-checked c = search rules
+enum_known-checked : tie.Need-enum_known-checked
+enum_known-checked c = search rules
 
 refuse-requires : tie.Need-refuse-requires
 refuse-requires c κs = search rules
 
-enum-known-checked-2 : tie.Need-enum-known-checked-2
-enum-known-checked-2 c = search rules
+enum_known-checked-in-Blocks-1 : tie.Need-enum_known-checked-in-Blocks-1
+enum_known-checked-in-Blocks-1 c = search rules
 
-cast-answer : tie.Need-overflow-cast-answer
-cast-answer c = search rules
+overflow_cast-words : tie.Need-overflow_cast-words
+overflow_cast-words c = search rules
 
-cast-answer-2 : tie.Need-overflow-cast-answer-2
-cast-answer-2 c = search rules
+overflow_cast-blocks : tie.Need-overflow_cast-blocks
+overflow_cast-blocks c = search rules
 
 answer-requires : tie.Need-answer-requires
 answer-requires c κs = search rules
 
-returns : tie.Need-returns
-returns c = passed_as (ap book_told (sym c.before.before.before.checked.given.1)) c.refuse.ensures
+returns-in-Refused : tie.Need-returns-in-Refused
+returns-in-Refused c = passed_as (ap book_told (sym c.in-Refused.is)) c.refuse.ensures
 
-returns_2 : tie.Need-returns-2
-returns_2 c = passed_as (ap book_told (sym c.before.before.before.checked2.given.1)) c.answer.ensures
+returns-in-Blocks : tie.Need-returns-in-Blocks
+returns-in-Blocks c = passed_as (ap book_told (sym c.in-Blocks.is)) c.answer.ensures
 
 pub pass_spec : {M : Type 1} → statement M
 pass_spec =
     tie.close
     (tie.spec
-    enum-known-checked
+    enum_known-checked
     refuse-requires
-    enum-known-checked-2
-    cast-answer
-    cast-answer-2
+    enum_known-checked-in-Blocks-1
+    overflow_cast-words
+    overflow_cast-blocks
     answer-requires
-    returns
-    returns_2)
+    returns-in-Refused
+    returns-in-Blocks)

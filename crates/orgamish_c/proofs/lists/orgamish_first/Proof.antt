@@ -7,16 +7,15 @@ use Rattle.orgamish_c.proofs.lists.orgamish_first.Tie as tie
 first-requires : tie.Need-first-requires
 first-requires c κs = search rules
 
-pass-first-requires : tie.Need-pass-first-requires
-pass-first-requires c κs = search rules
+pass_first-requires : tie.Need-pass_first-requires
+pass_first-requires c κs = search rules
 
-same_length : tie.Need-same-length
-same_length c = search rules
+shape_of-reading : tie.Need-shape_of-reading
+shape_of-reading c = search rules
 
 returns : tie.Need-returns
 returns c =
-    let d = c.before.before.before.before in
-    (passed_as d.first.ensures.0 c.pass-first.ensures, d.first.ensures.1)
+    (passed_as c.first.ensures.0 c.pass_first.ensures, c.first.ensures.1)
 
-pub orgamish-first-spec : {M : Type 1} → statement M
-orgamish-first-spec = tie.close (tie.spec first-requires pass-first-requires same_length returns)
+pub orgamish_first_spec : {M : Type 1} → statement M
+orgamish_first_spec = tie.close (tie.spec first-requires pass_first-requires shape_of-reading returns)

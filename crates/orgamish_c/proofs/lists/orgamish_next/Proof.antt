@@ -7,16 +7,15 @@ use Rattle.orgamish_c.proofs.lists.orgamish_next.Tie as tie
 next-requires : tie.Need-next-requires
 next-requires c κs = search rules
 
-pass-next-requires : tie.Need-pass-next-requires
-pass-next-requires c κs = search rules
+pass_next-requires : tie.Need-pass_next-requires
+pass_next-requires c κs = search rules
 
-same_length : tie.Need-same-length
-same_length c = search rules
+shape_of-reading : tie.Need-shape_of-reading
+shape_of-reading c = search rules
 
 returns : tie.Need-returns
 returns c =
-    let d = c.before.before.before.before in
-    (passed_as d.next.ensures.0 c.pass-next.ensures, d.next.ensures.1)
+    (passed_as c.next.ensures.0 c.pass_next.ensures, c.next.ensures.1)
 
-pub orgamish-next-spec : {M : Type 1} → statement M
-orgamish-next-spec = tie.close (tie.spec next-requires pass-next-requires same_length returns)
+pub orgamish_next_spec : {M : Type 1} → statement M
+orgamish_next_spec = tie.close (tie.spec next-requires pass_next-requires shape_of-reading returns)

@@ -6,35 +6,35 @@ use Rattle.orgamish_c.proofs.Passing.{passed_as}
 use Rattle.orgamish_c.proofs.lists.pass_first.Statement.{statement}
 use Rattle.orgamish_c.proofs.lists.pass_first.Tie as tie
 
-enum-known-written : tie.Need-enum-known-written
-enum-known-written c = search rules
+enum_known-written : tie.Need-enum_known-written
+enum_known-written c = search rules
 
 refuse-requires : tie.Need-refuse-requires
 refuse-requires c κs = search rules
 
-enum-known-written-2 : tie.Need-enum-known-written-2
-enum-known-written-2 c = search rules
+enum_known-written-in-Words-1 : tie.Need-enum_known-written-in-Words-1
+enum_known-written-in-Words-1 c = search rules
 
-cast-answer : tie.Need-overflow-cast-answer
-cast-answer c = search rules
+overflow_cast-words : tie.Need-overflow_cast-words
+overflow_cast-words c = search rules
 
 answer-requires : tie.Need-answer-requires
 answer-requires c κs = search rules
 
-returns : tie.Need-returns
-returns c = passed_as (ap first_told (sym c.before.before.before.written.given.1)) c.refuse.ensures
+returns-in-Refused : tie.Need-returns-in-Refused
+returns-in-Refused c = passed_as (ap first_told (sym c.in-Refused.is)) c.refuse.ensures
 
-returns_2 : tie.Need-returns-2
-returns_2 c = passed_as (ap first_told (sym c.before.before.before.written2.given.1)) c.answer.ensures
+returns-in-Words : tie.Need-returns-in-Words
+returns-in-Words c = passed_as (ap first_told (sym c.in-Words.is)) c.answer.ensures
 
-pub pass-first-spec : {M : Type 1} → statement M
-pass-first-spec =
+pub pass_first_spec : {M : Type 1} → statement M
+pass_first_spec =
     tie.close
     (tie.spec
-    enum-known-written
+    enum_known-written
     refuse-requires
-    enum-known-written-2
-    cast-answer
+    enum_known-written-in-Words-1
+    overflow_cast-words
     answer-requires
-    returns
-    returns_2)
+    returns-in-Refused
+    returns-in-Words)

@@ -6,47 +6,47 @@ use Rattle.orgamish_c.proofs.Passing.{passed_as}
 use Rattle.orgamish_c.proofs.lists.pass_next.Statement.{statement}
 use Rattle.orgamish_c.proofs.lists.pass_next.Tie as tie
 
-enum-known-written : tie.Need-enum-known-written
-enum-known-written c = search rules
+enum_known-written : tie.Need-enum_known-written
+enum_known-written c = search rules
 
 refuse-requires : tie.Need-refuse-requires
 refuse-requires c κs = search rules
 
-enum_told : tie.Need-enum-told
-enum_told c = search rules
+enum_told-1 : tie.Need-enum_told-1
+enum_told-1 c = search rules
 
 answer-requires : tie.Need-answer-requires
 answer-requires c κs = search rules
 
-enum-known-written-2 : tie.Need-enum-known-written-2
-enum-known-written-2 c = search rules
+enum_known-written-in-Words-1 : tie.Need-enum_known-written-in-Words-1
+enum_known-written-in-Words-1 c = search rules
 
-cast-answer : tie.Need-overflow-cast-answer
-cast-answer c = search rules
+overflow_cast-words : tie.Need-overflow_cast-words
+overflow_cast-words c = search rules
 
-answer-requires-2 : tie.Need-answer-requires-2
-answer-requires-2 c κs = search rules
+answer-requires-in-Words : tie.Need-answer-requires-in-Words
+answer-requires-in-Words c κs = search rules
 
-returns : tie.Need-returns
-returns c = passed_as (ap next_told (sym c.before.before.before.written.given.1)) c.refuse.ensures
+returns-in-Refused : tie.Need-returns-in-Refused
+returns-in-Refused c = passed_as (ap next_told (sym c.in-Refused.is)) c.refuse.ensures
 
-returns_2 : tie.Need-returns-2
-returns_2 c = passed_as (ap next_told (sym c.before.before.enum_told.given.1)) c.answer.ensures
+returns-in-End : tie.Need-returns-in-End
+returns-in-End c = passed_as (ap next_told (sym c.in-End.is)) c.answer.ensures
 
-returns-3 : tie.Need-returns-3
-returns-3 c = passed_as (ap next_told (sym c.before.before.before.written2.given.1)) c.answer2.ensures
+returns-in-Words : tie.Need-returns-in-Words
+returns-in-Words c = passed_as (ap next_told (sym c.in-Words.is)) c.answer-in-Words.ensures
 
-pub pass-next-spec : {M : Type 1} → statement M
-pass-next-spec =
+pub pass_next_spec : {M : Type 1} → statement M
+pass_next_spec =
     tie.close
     (tie.spec
-    enum-known-written
+    enum_known-written
     refuse-requires
-    enum_told
+    enum_told-1
     answer-requires
-    enum-known-written-2
-    cast-answer
-    answer-requires-2
-    returns
-    returns_2
-    returns-3)
+    enum_known-written-in-Words-1
+    overflow_cast-words
+    answer-requires-in-Words
+    returns-in-Refused
+    returns-in-End
+    returns-in-Words)

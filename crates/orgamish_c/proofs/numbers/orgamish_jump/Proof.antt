@@ -7,16 +7,15 @@ use Rattle.orgamish_c.proofs.numbers.orgamish_jump.Tie as tie
 jump-requires : tie.Need-jump-requires
 jump-requires c κs = search rules
 
-pass-first-requires : tie.Need-pass-first-requires
-pass-first-requires c κs = search rules
+pass_first-requires : tie.Need-pass_first-requires
+pass_first-requires c κs = search rules
 
-same_length : tie.Need-same-length
-same_length c = search rules
+shape_of-reading : tie.Need-shape_of-reading
+shape_of-reading c = search rules
 
 returns : tie.Need-returns
 returns c =
-    let d = c.before.before.before.before in
-    (passed_as d.jump.ensures.0 c.pass-first.ensures, d.jump.ensures.1)
+    (passed_as c.jump.ensures.0 c.pass_first.ensures, c.jump.ensures.1)
 
-pub orgamish-jump-spec : {M : Type 1} → statement M
-orgamish-jump-spec = tie.close (tie.spec jump-requires pass-first-requires same_length returns)
+pub orgamish_jump_spec : {M : Type 1} → statement M
+orgamish_jump_spec = tie.close (tie.spec jump-requires pass_first-requires shape_of-reading returns)

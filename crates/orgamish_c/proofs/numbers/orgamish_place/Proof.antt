@@ -11,7 +11,7 @@ pass-requires : tie.Need-pass-requires
 pass-requires c κs = search rules
 
 returns : tie.Need-returns
-returns c = passed_as c.before.before.place.ensures c.pass.ensures
+returns c = passed_as c.place.ensures c.pass.ensures
 
-pub orgamish-place-spec : {M : Type 1} → statement M
-orgamish-place-spec = tie.close (tie.spec place-requires pass-requires returns)
+pub orgamish_place_spec : {M : Type 1} → statement M
+orgamish_place_spec = tie.close (tie.spec place-requires pass-requires returns)

@@ -10,17 +10,16 @@ scan-requires c κs = search rules
 pass-requires : tie.Need-pass-requires
 pass-requires c κs = search rules
 
-same_length : tie.Need-same-length
-same_length c = search rules
+shape_of-states : tie.Need-shape_of-states
+shape_of-states c = search rules
 
-same-length-2 : tie.Need-same-length-2
-same-length-2 c = search rules
+shape_of-counts : tie.Need-shape_of-counts
+shape_of-counts c = search rules
 
 returns : tie.Need-returns
 returns c =
-    let d = c.before.before.before.before.before.before in
-    (passed_as d.scan.ensures.0 c.pass.ensures, d.scan.ensures.1, d.scan.ensures.2)
+    (passed_as c.scan.ensures.0 c.pass.ensures, c.scan.ensures.1, c.scan.ensures.2)
 
-pub orgamish-scan-spec : {M : Type 1} → statement M
-orgamish-scan-spec =
-    tie.close (tie.spec scan-requires pass-requires same_length same-length-2 returns)
+pub orgamish_scan_spec : {M : Type 1} → statement M
+orgamish_scan_spec =
+    tie.close (tie.spec scan-requires pass-requires shape_of-states shape_of-counts returns)

@@ -6,43 +6,43 @@ use Rattle.orgamish_c.proofs.Passing.{passed_as}
 use Rattle.orgamish_c.proofs.scans.pass.Statement.{statement}
 use Rattle.orgamish_c.proofs.scans.pass.Tie as tie
 
-enum-known-scanned : tie.Need-enum-known-scanned
-enum-known-scanned c = search rules
+enum_known-scanned : tie.Need-enum_known-scanned
+enum_known-scanned c = search rules
 
 refuse-requires : tie.Need-refuse-requires
 refuse-requires c κs = search rules
 
-enum-known-scanned-2 : tie.Need-enum-known-scanned-2
-enum-known-scanned-2 c = search rules
+enum_known-scanned-in-Scanned-1 : tie.Need-enum_known-scanned-in-Scanned-1
+enum_known-scanned-in-Scanned-1 c = search rules
 
-cast-answer : tie.Need-overflow-cast-answer
-cast-answer c = search rules
+overflow_cast-accepted : tie.Need-overflow_cast-accepted
+overflow_cast-accepted c = search rules
 
-cast-answer-2 : tie.Need-overflow-cast-answer-2
-cast-answer-2 c = search rules
+overflow_cast-farthest : tie.Need-overflow_cast-farthest
+overflow_cast-farthest c = search rules
 
-cast-answer-3 : tie.Need-overflow-cast-answer-3
-cast-answer-3 c = search rules
+overflow_cast-probes : tie.Need-overflow_cast-probes
+overflow_cast-probes c = search rules
 
 answer-requires : tie.Need-answer-requires
 answer-requires c κs = search rules
 
-returns : tie.Need-returns
-returns c = passed_as (ap scan_told (sym c.before.before.before.scanned.given.1)) c.refuse.ensures
+returns-in-Refused : tie.Need-returns-in-Refused
+returns-in-Refused c = passed_as (ap scan_told (sym c.in-Refused.is)) c.refuse.ensures
 
-returns_2 : tie.Need-returns-2
-returns_2 c = passed_as (ap scan_told (sym c.before.before.before.scanned2.given.1)) c.answer.ensures
+returns-in-Scanned : tie.Need-returns-in-Scanned
+returns-in-Scanned c = passed_as (ap scan_told (sym c.in-Scanned.is)) c.answer.ensures
 
 pub pass_spec : {M : Type 1} → statement M
 pass_spec =
     tie.close
     (tie.spec
-    enum-known-scanned
+    enum_known-scanned
     refuse-requires
-    enum-known-scanned-2
-    cast-answer
-    cast-answer-2
-    cast-answer-3
+    enum_known-scanned-in-Scanned-1
+    overflow_cast-accepted
+    overflow_cast-farthest
+    overflow_cast-probes
     answer-requires
-    returns
-    returns_2)
+    returns-in-Refused
+    returns-in-Scanned)

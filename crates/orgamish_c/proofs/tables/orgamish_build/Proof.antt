@@ -10,13 +10,12 @@ build-requires c κs = search rules
 pass-requires : tie.Need-pass-requires
 pass-requires c κs = search rules
 
-same_length : tie.Need-same-length
-same_length c = search rules
+shape_of-table : tie.Need-shape_of-table
+shape_of-table c = search rules
 
 returns : tie.Need-returns
 returns c =
-    let d = c.before.before.before.before in
-    (passed_as d.build.ensures.0 c.pass.ensures, d.build.ensures.1)
+    (passed_as c.build.ensures.0 c.pass.ensures, c.build.ensures.1)
 
-pub orgamish-build-spec : {M : Type 1} → statement M
-orgamish-build-spec = tie.close (tie.spec build-requires pass-requires same_length returns)
+pub orgamish_build_spec : {M : Type 1} → statement M
+orgamish_build_spec = tie.close (tie.spec build-requires pass-requires shape_of-table returns)

@@ -10,13 +10,12 @@ narrow-requires c κs = search rules
 pass-requires : tie.Need-pass-requires
 pass-requires c κs = search rules
 
-same_length : tie.Need-same-length
-same_length c = search rules
+shape_of-narrow : tie.Need-shape_of-narrow
+shape_of-narrow c = search rules
 
 returns : tie.Need-returns
 returns c =
-    let d = c.before.before.before.before in
-    (passed_as d.narrow.ensures.0 c.pass.ensures, d.narrow.ensures.1)
+    (passed_as c.narrow.ensures.0 c.pass.ensures, c.narrow.ensures.1)
 
-pub orgamish-narrow-spec : {M : Type 1} → statement M
-orgamish-narrow-spec = tie.close (tie.spec narrow-requires pass-requires same_length returns)
+pub orgamish_narrow_spec : {M : Type 1} → statement M
+orgamish_narrow_spec = tie.close (tie.spec narrow-requires pass-requires shape_of-narrow returns)

@@ -10,13 +10,12 @@ widen-requires c κs = search rules
 pass-requires : tie.Need-pass-requires
 pass-requires c κs = search rules
 
-same_length : tie.Need-same-length
-same_length c = search rules
+shape_of-table : tie.Need-shape_of-table
+shape_of-table c = search rules
 
 returns : tie.Need-returns
 returns c =
-    let d = c.before.before.before.before in
-    (passed_as d.widen.ensures.0 c.pass.ensures, d.widen.ensures.1)
+    (passed_as c.widen.ensures.0 c.pass.ensures, c.widen.ensures.1)
 
-pub orgamish-widen-spec : {M : Type 1} → statement M
-orgamish-widen-spec = tie.close (tie.spec widen-requires pass-requires same_length returns)
+pub orgamish_widen_spec : {M : Type 1} → statement M
+orgamish_widen_spec = tie.close (tie.spec widen-requires pass-requires shape_of-table returns)

@@ -6,43 +6,43 @@ use Rattle.orgamish_c.proofs.Passing.{passed_as}
 use Rattle.orgamish_c.proofs.tables.pass.Statement.{statement}
 use Rattle.orgamish_c.proofs.tables.pass.Tie as tie
 
-enum-known-built : tie.Need-enum-known-built
-enum-known-built c = search rules
+enum_known-built : tie.Need-enum_known-built
+enum_known-built c = search rules
 
 refuse-requires : tie.Need-refuse-requires
 refuse-requires c κs = search rules
 
-enum-known-built-2 : tie.Need-enum-known-built-2
-enum-known-built-2 c = search rules
+enum_known-built-in-Built-1 : tie.Need-enum_known-built-in-Built-1
+enum_known-built-in-Built-1 c = search rules
 
-cast-answer : tie.Need-overflow-cast-answer
-cast-answer c = search rules
+overflow_cast-words : tie.Need-overflow_cast-words
+overflow_cast-words c = search rules
 
-cast-answer-2 : tie.Need-overflow-cast-answer-2
-cast-answer-2 c = search rules
+overflow_cast-states : tie.Need-overflow_cast-states
+overflow_cast-states c = search rules
 
-cast-answer-3 : tie.Need-overflow-cast-answer-3
-cast-answer-3 c = search rules
+overflow_cast-longest : tie.Need-overflow_cast-longest
+overflow_cast-longest c = search rules
 
 answer-requires : tie.Need-answer-requires
 answer-requires c κs = search rules
 
-returns : tie.Need-returns
-returns c = passed_as (ap build_told (sym c.before.before.before.built.given.1)) c.refuse.ensures
+returns-in-Refused : tie.Need-returns-in-Refused
+returns-in-Refused c = passed_as (ap build_told (sym c.in-Refused.is)) c.refuse.ensures
 
-returns_2 : tie.Need-returns-2
-returns_2 c = passed_as (ap build_told (sym c.before.before.before.built2.given.1)) c.answer.ensures
+returns-in-Built : tie.Need-returns-in-Built
+returns-in-Built c = passed_as (ap build_told (sym c.in-Built.is)) c.answer.ensures
 
 pub pass_spec : {M : Type 1} → statement M
 pass_spec =
     tie.close
     (tie.spec
-    enum-known-built
+    enum_known-built
     refuse-requires
-    enum-known-built-2
-    cast-answer
-    cast-answer-2
-    cast-answer-3
+    enum_known-built-in-Built-1
+    overflow_cast-words
+    overflow_cast-states
+    overflow_cast-longest
     answer-requires
-    returns
-    returns_2)
+    returns-in-Refused
+    returns-in-Built)
