@@ -3,7 +3,7 @@
 
 lib_dir := $(or $(ORGAMISH_LIB_DIR),target/staticlib)
 archive := $(lib_dir)/liborgamish_c.a
-proved := $(shell find crates -name '*.rt' -o -name '*.antt')
+proved := $(shell find crates -name out -prune -o -name '*.rt' -print -o -name '*.antt' -print)
 strict := -Wall -Wextra -Wpedantic -Werror -Iinclude
 
 .PHONY: all header test clean
@@ -11,7 +11,9 @@ strict := -Wall -Wextra -Wpedantic -Werror -Iinclude
 all: $(archive) target/examples/readings
 
 target/staticlib/liborgamish_c.a: $(proved)
-	rt staticlib orgamish_c
+	cd crates/orgamish_c && rt lib
+	mkdir -p $(@D)
+	cp crates/orgamish_c/out/liborgamish_c.a $@
 
 target/examples/%: examples/%.c include/orgamish.h $(archive)
 	mkdir -p $(@D)

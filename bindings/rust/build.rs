@@ -24,7 +24,7 @@ fn folder_of_archive() -> PathBuf {
 
 fn complain(folder: &Path) -> ! {
     eprintln!("There is no {ARCHIVE} in {}.", folder.display());
-    eprintln!("Make it at the root of Orgamish's repository: rt staticlib orgamish_c");
+    eprintln!("Make it at the root of Orgamish's repository: make target/staticlib/liborgamish_c.a");
     eprintln!("An archive that lies elsewhere: name its folder in ORGAMISH_LIB_DIR.");
     exit(1)
 }

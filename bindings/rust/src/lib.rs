@@ -2,7 +2,7 @@
 //! how many readings it has, which they are, in order, and where each word ends. Every answer is
 //! the C archive's, whose calls are proved; this crate adds no dependency and no state. The archive
 //! is looked for in the folder that `ORGAMISH_LIB_DIR` names, else in the repository's
-//! `target/staticlib`, where `rt staticlib orgamish_c` writes it.
+//! `target/staticlib`, where `make target/staticlib/liborgamish_c.a` puts it.
 //!
 //! [`Dictionary`], [`Block`] and [`Readings`] own the memory that the calls write:
 //!

@@ -89,15 +89,14 @@ loop-k-smaller c = omega arith
 
 -- src/building.rt:33:5
 loop-k-preserved : tie.Need-loop-k-preserved invariant-loop-k decreases-loop-k
-loop-k-preserved c =
-    (
-      c.insert_word-n.auto.table ∙ c.loop-k.invariant.0,
-      λ X α γ.
-          let φ = c.loop-k.invariant.1 X α γ in
-          let l : c.loop-k.k < length X = omega (arith, α.count, c.loop-k-test.true) in
-          let i = insertable α φ l refl c.word_len.ensures.is refl (room c.before.before.before.before.before.before.before) in
-          planted_on α φ l refl c.word_len.ensures.is refl (c.insert_word-n.ensures _ _ i),
-    )
+loop-k-preserved c = (
+  c.insert_word-n.auto.table ∙ c.loop-k.invariant.0,
+  λ X α γ.
+      let φ = c.loop-k.invariant.1 X α γ in
+      let l : c.loop-k.k < length X = omega (arith, α.count, c.loop-k-test.true) in
+      let i = insertable α φ l refl c.word_len.ensures.is refl (room c.before.before.before.before.before.before.before) in
+      planted_on α φ l refl c.word_len.ensures.is refl (c.insert_word-n.ensures _ _ i),
+)
 
 -- src/building.rt:25:1
 shape_of-table : tie.Need-shape_of-table invariant-loop-k decreases-loop-k

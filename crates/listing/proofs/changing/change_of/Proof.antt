@@ -1,6 +1,5 @@
 -- `listing::changing::change_of`: at the loop's head the words from entry j on are looked at, and what is kept is the leftmost
 -- change among them.
-use mathlib.Core.Logic.{⊎_elim}
 use native.Mathlib.Omega.{arith}
 use borrow.Author.Rules.{rules}
 use Rattle.meaning.specs.Words.{Word, Words}

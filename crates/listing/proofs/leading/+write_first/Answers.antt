@@ -5,7 +5,7 @@ use Rattle.meaning.proofs.Lists.{snoc-length}
 use Rattle.listing.specs.Positions.{Readable}
 use Rattle.listing.specs.Writing.{Written}
 use Rattle.listing.proofs.Steps.{word_number}
-use Rattle.listing.proofs.Lasts.{LastWord, last_is, last_row, last_fits, readable_before, first_splits, first_longer}
+use Rattle.listing.proofs.Lasts.{last_is, last_row, last_fits, readable_before, first_splits, first_longer}
 use Rattle.listing.proofs.Writes.{written_more}
 use Rattle.listing.proofs.leading.+write_first.Goals as goal
 
