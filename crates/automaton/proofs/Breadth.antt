@@ -9,7 +9,8 @@ use native.Mathlib.Omega.{arith}
 use lib.Dec.{eqb}
 use lib.ListN.{length, get_or}
 use Rattle.meaning.specs.Numbers.{most_states, absent}
-use Rattle.meaning.specs.Words.{if◌then◌else◌, Word, Words, snoc, find, word}
+use Rattle.std.specs.Prelude.{if◌then◌else◌}
+use Rattle.meaning.specs.Words.{Word, Words, snoc, find, word}
 use Rattle.meaning.specs.Table.{border_field}
 use Rattle.meaning.proofs.Lists.{Snoc, nothing, last, snoc_view, snoc-length}
 use Rattle.meaning.proofs.Find.{find_some}

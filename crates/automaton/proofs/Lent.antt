@@ -8,7 +8,8 @@ use lib.ListN.{length, take, drop, length-append, replicate}
 use lib.Seq.{take-append_seam}
 use borrow.Author.Tests.{lt-ltb, le-ltb}
 use Rattle.meaning.specs.Numbers.{most_states}
-use Rattle.meaning.specs.Words.{if◌then◌else◌, Words, same}
+use Rattle.std.specs.Prelude.{if◌then◌else◌}
+use Rattle.meaning.specs.Words.{Words, same}
 use Rattle.meaning.specs.Automaton.{states, longest_chain}
 use Rattle.meaning.specs.Table.{width, over}
 use Rattle.meaning.specs.Plain.{Allowed}

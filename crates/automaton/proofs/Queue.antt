@@ -12,7 +12,8 @@ use lib.ListN.{length, get_or, set, length-set}
 use lib.Seq.{get_or-set_same, get_or-set_other}
 use borrow.Author.Tests.{ne_eqb}
 use Rattle.meaning.specs.Numbers.{letter_values, most_states, absent}
-use Rattle.meaning.specs.Words.{if◌then◌else◌, Word, Words, snoc, find, word}
+use Rattle.std.specs.Prelude.{if◌then◌else◌}
+use Rattle.meaning.specs.Words.{Word, Words, snoc, find, word}
 use Rattle.meaning.specs.Automaton.{nearest, border, link}
 use Rattle.meaning.specs.Table.{stored, child_from, last_letter, letter_field, sibling_field, border_field, link_field, chain_field}
 use Rattle.meaning.proofs.Lists.{snoc-length}

@@ -1,6 +1,6 @@
 -- What a lent table is beside the table that it should be, and what becomes of it.
-use Rattle.std.specs.Prelude.{Bool, List, ℕ, ltb, length, take}
-use Rattle.meaning.specs.Words.{if◌then◌else◌, Words, same}
+use Rattle.std.specs.Prelude.{Bool, List, ℕ, ltb, length, take, if◌then◌else◌}
+use Rattle.meaning.specs.Words.{Words, same}
 use Rattle.meaning.specs.Automaton.{states, longest_chain}
 use Rattle.meaning.specs.Table.{over}
 use Rattle.automaton.specs.declared.lending.Judged.{Judged}

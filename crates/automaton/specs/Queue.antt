@@ -1,8 +1,8 @@
 -- The queue of states that borders, links and chains are filled in by, and what its functions ask and leave.
-use Rattle.std.specs.Prelude.{◌≡◌, ◌⊎◌, List, ℕ, zero, suc, ◌+◌, ◌-◌, ◌≤◌, ◌<◌, eqb, length, get_or}
+use Rattle.std.specs.Prelude.{◌≡◌, ◌⊎◌, List, ℕ, zero, suc, ◌+◌, ◌-◌, ◌≤◌, ◌<◌, eqb, length, get_or, if◌then◌else◌}
 use Rattle.std.proofs.Math.Option.{some}
 use Rattle.meaning.specs.Numbers.{most_states, absent}
-use Rattle.meaning.specs.Words.{if◌then◌else◌, Words, snoc, find, word}
+use Rattle.meaning.specs.Words.{Words, snoc, find, word}
 use Rattle.meaning.specs.Table.{border_field}
 use Rattle.tree.specs.Layout.{field_at}
 use Rattle.tree.specs.Tree.{Tree}

@@ -9,7 +9,8 @@ use native.Mathlib.Omega.{arith}
 use lib.ListN.{length, get_or, take}
 use lib.Seq.{take-suc}
 use borrow.Author.Tests.{eqb-true, eq-eqb}
-use Rattle.meaning.specs.Words.{if◌then◌else◌, Word, Words, snoc, same}
+use Rattle.std.specs.Prelude.{if◌then◌else◌}
+use Rattle.meaning.specs.Words.{Word, Words, snoc, same}
 use Rattle.meaning.specs.Automaton.{states}
 use Rattle.meaning.specs.Readings.{state_at, count_at, up_to, state_column, count_column}
 use Rattle.meaning.proofs.Find.{Tested, pass, fail, test, same_refl, same_true}

@@ -1,7 +1,7 @@
 -- What the scan asks, tells and leaves, and when lent columns are those it leaves.
-use Rattle.std.specs.Prelude.{◌≡◌, Bool, false, List, ℕ, suc, ◌*◌, ◌≤◌, ◌<◌, eqb, length, get_or, take}
+use Rattle.std.specs.Prelude.{◌≡◌, Bool, false, List, ℕ, suc, ◌*◌, ◌≤◌, ◌<◌, eqb, length, get_or, take, if◌then◌else◌}
 use Rattle.meaning.specs.Numbers.{longest_text}
-use Rattle.meaning.specs.Words.{if◌then◌else◌, Word, Words, same}
+use Rattle.meaning.specs.Words.{Word, Words, same}
 use Rattle.meaning.specs.Automaton.{longest_chain}
 use Rattle.meaning.specs.Table.{over}
 use Rattle.meaning.specs.Readings.{count_at, state_column, count_column, probes, farthest}

@@ -8,7 +8,8 @@ use lib.Dec.{eqb, leb, ltb}
 use lib.ListN.{length, take}
 use borrow.Author.Tests.{eqb-false, ltb-false, leb-false}
 use Rattle.meaning.specs.Numbers.{longest_text, most_counted}
-use Rattle.meaning.specs.Words.{if◌then◌else◌, Word, Words, same}
+use Rattle.std.specs.Prelude.{if◌then◌else◌}
+use Rattle.meaning.specs.Words.{Word, Words, same}
 use Rattle.meaning.specs.Table.{table}
 use Rattle.meaning.specs.Readings.{count_at, state_column, count_column}
 use Rattle.meaning.specs.Plain.{Allowed}

@@ -1,10 +1,10 @@
 -- The order of refusals: a chain of tests, of which the first that fails decides. 0 is no refusal.
-use Rattle.std.specs.Prelude.{Bool, false, ℕ, zero, suc, eqb, leb, ltb, length, take}
+use Rattle.std.specs.Prelude.{Bool, false, ℕ, zero, suc, eqb, leb, ltb, length, take, if◌then◌else◌}
 use Rattle.std.proofs.Math.Option.{Option, none, some}
 use mathlib.Core.List.{List, head?}
 use Rattle.std.proofs.Math.ListN.{get_elem?}
 use Rattle.meaning.specs.Numbers.{longest_text, most_counted}
-use Rattle.meaning.specs.Words.{if◌then◌else◌, Word, Words, Reading}
+use Rattle.meaning.specs.Words.{Word, Words, Reading}
 use Rattle.meaning.specs.Table.{table}
 use Rattle.meaning.specs.Readings.{readings, count_at}
 use Rattle.meaning.specs.Listing.{is_reading, next_reading}

@@ -1,7 +1,6 @@
 -- What a lent letter map makes of the bytes: 18 for a map that hasn't 256 numbers, before all others.
-use Rattle.std.specs.Prelude.{Bool, List, ℕ, eqb, length}
+use Rattle.std.specs.Prelude.{Bool, List, ℕ, eqb, length, if◌then◌else◌}
 use Rattle.meaning.specs.Numbers.{letter_values}
-use Rattle.meaning.specs.Words.{if◌then◌else◌}
 use Rattle.records.specs.Run.{Run, refused, dictionary}
 use Rattle.records.specs.Book.{Opened, shut, book}
 

@@ -1,7 +1,7 @@
 -- One record: what stands at an offset of the bytes.
-use Rattle.std.specs.Prelude.{◌≡◌, Bool, not, List, [], ◌∷◌, ℕ, ◌+◌, ◌*◌, ◌≤◌, ◌<◌, length, get_or, leb, ltb, eqb}
+use Rattle.std.specs.Prelude.{◌≡◌, Bool, not, List, [], ◌∷◌, ℕ, ◌+◌, ◌*◌, ◌≤◌, ◌<◌, length, get_or, leb, ltb, eqb, if◌then◌else◌}
 use Rattle.meaning.specs.Numbers.{longest_word, longest_text}
-use Rattle.meaning.specs.Words.{if◌then◌else◌, same, Word}
+use Rattle.meaning.specs.Words.{same, Word}
 use Rattle.letters.specs.Letters.{part}
 use Rattle.letters.specs.declared.record.Record.{Record}
 use Rattle.letters.specs.declared.record.Record.TheVariants as word

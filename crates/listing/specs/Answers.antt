@@ -1,7 +1,7 @@
 -- What first and next answer, and what the buffer then holds, by the reading that is to be written.
-use Rattle.std.specs.Prelude.{◌≡◌, List, ℕ, leb, length}
+use Rattle.std.specs.Prelude.{◌≡◌, List, ℕ, leb, length, if◌then◌else◌}
 use Rattle.std.proofs.Math.Option.{Option, none, some}
-use Rattle.meaning.specs.Words.{if◌then◌else◌, Reading}
+use Rattle.meaning.specs.Words.{Reading}
 use Rattle.meaning.specs.Table.{over}
 use Rattle.listing.specs.declared.listed.Listed.{Listed}
 use Rattle.listing.specs.declared.listed.Listed.TheVariants.{Nothing, Short, Words}

@@ -1,9 +1,9 @@
 -- A text of which table and columns are right, its positions, and the words that end there.
-use Rattle.std.specs.Prelude.{◌≡◌, true, ℕ, suc, ◌≤◌, ◌<◌, eqb, length, take}
+use Rattle.std.specs.Prelude.{◌≡◌, true, ℕ, suc, ◌≤◌, ◌<◌, eqb, length, take, if◌then◌else◌}
 use Rattle.std.proofs.Math.Option.{Option, none, some}
 use mathlib.Core.List.{List, [], ◌∷◌, Memᴰ}
 use Rattle.meaning.specs.Numbers.{absent}
-use Rattle.meaning.specs.Words.{if◌then◌else◌, Word, Words, find, word}
+use Rattle.meaning.specs.Words.{Word, Words, find, word}
 use Rattle.meaning.specs.Automaton.{states, chain}
 use Rattle.meaning.specs.Readings.{readable, state_column, count_column}
 use Rattle.meaning.specs.Plain.{IsReading}

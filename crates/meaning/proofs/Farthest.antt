@@ -10,7 +10,8 @@ use native.Mathlib.Nat.{le-suc_iff}
 use native.Mathlib.Omega.{arith}
 use lib.ListN.{length, take, drop, length-append, length-take, take-append-drop}
 use lib.Seq.{slice, slice_empty, length-slice, take-take, take_at, drop_at, length-take-le}
-use Rattle.meaning.specs.Words.{if◌then◌else◌, Word, Words, has, word}
+use Rattle.std.specs.Prelude.{if◌then◌else◌}
+use Rattle.meaning.specs.Words.{Word, Words, has, word}
 use Rattle.meaning.specs.Automaton.{states, border}
 use Rattle.meaning.specs.Readings.{readable, viable_at, viable_by, viable, state_at, farthest_to, farthest}
 use Rattle.meaning.specs.Plain.{Dictionary, Has, Prefix, PrefixIn, empty, of, Suffix, ProperSuffix, LongestIn, Star, Viable, Farthest}

@@ -8,7 +8,8 @@ use Prim.Native.Nat.{ℕ, zero, suc, ◌-◌, ◌≤◌, ◌<◌}
 use native.Mathlib.Nat.{not-suc-le-zero}
 use native.Mathlib.Omega.{arith}
 use lib.ListN.{length, take}
-use Rattle.meaning.specs.Words.{if◌then◌else◌, Word, Words, Reading, snoc, size}
+use Rattle.std.specs.Prelude.{if◌then◌else◌}
+use Rattle.meaning.specs.Words.{Word, Words, Reading, snoc, size}
 use Rattle.meaning.specs.Automaton.{chain}
 use Rattle.meaning.specs.Readings.{ending_with, readings_to, readings, is_nonempty, readable, accepted}
 use Rattle.meaning.specs.Listing.{pick, with_word, first_in, first_reading, first_with}

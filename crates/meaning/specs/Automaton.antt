@@ -1,7 +1,7 @@
 -- The states of a dictionary, borders, links and chains.
 use Rattle.std.proofs.Math.Option.{Option, none, some}
-use Rattle.std.specs.Prelude.{List, [], ◌∷◌, ◌++◌, ℕ, max, length}
-use Rattle.meaning.specs.Words.{if◌then◌else◌, Word, Words, snoc, find, has}
+use Rattle.std.specs.Prelude.{List, [], ◌∷◌, ◌++◌, ℕ, max, length, if◌then◌else◌}
+use Rattle.meaning.specs.Words.{Word, Words, snoc, find, has}
 
 -- the prefixes of p ++ u that are longer than p, shorter ones first
 abbrev pub prefixes : Word → Word → Words

@@ -1,7 +1,7 @@
 -- Whether a word sequence is a reading; the first reading of a text, and the one after a given reading, word by word.
-use Rattle.std.specs.Prelude.{Bool, true, false, List, [], ◌∷◌, ◌++◌, ℕ, zero, suc, ◌+◌, ◌-◌, eqb, ltb, length, take}
+use Rattle.std.specs.Prelude.{Bool, true, false, List, [], ◌∷◌, ◌++◌, ℕ, zero, suc, ◌+◌, ◌-◌, eqb, ltb, length, take, if◌then◌else◌}
 use Rattle.std.proofs.Math.Option.{Option, none, some}
-use Rattle.meaning.specs.Words.{if◌then◌else◌, Word, Words, Reading, snoc, same, size, joined}
+use Rattle.meaning.specs.Words.{Word, Words, Reading, snoc, same, size, joined}
 use Rattle.meaning.specs.Automaton.{chain}
 use Rattle.meaning.specs.Readings.{readable}
 

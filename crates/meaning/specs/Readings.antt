@@ -1,8 +1,8 @@
 -- The readings of a text in their order, and what the scan tells and leaves.
-use Rattle.std.specs.Prelude.{Bool, true, false, List, [], ◌∷◌, ◌++◌, map, ℕ, zero, suc, ◌+◌, ◌-◌, min, length, take}
+use Rattle.std.specs.Prelude.{Bool, true, false, List, [], ◌∷◌, ◌++◌, map, ℕ, zero, suc, ◌+◌, ◌-◌, min, length, take, if◌then◌else◌}
 use Rattle.std.proofs.Math.Seq.{slice}
 use Rattle.meaning.specs.Numbers.{most_counted}
-use Rattle.meaning.specs.Words.{if◌then◌else◌, Word, Words, Reading, snoc, has, size}
+use Rattle.meaning.specs.Words.{Word, Words, Reading, snoc, has, size}
 use Rattle.meaning.specs.Automaton.{states, nearest, chain}
 use Rattle.meaning.specs.Table.{stored}
 

@@ -1,8 +1,8 @@
 -- The automaton table: the row of each state.
 use Rattle.std.proofs.Math.Option.{Option, none, some}
-use Rattle.std.specs.Prelude.{List, [], ◌∷◌, ◌++◌, ℕ, zero, suc, ◌-◌, length, drop}
+use Rattle.std.specs.Prelude.{List, [], ◌∷◌, ◌++◌, ℕ, zero, suc, ◌-◌, length, drop, if◌then◌else◌}
 use Rattle.meaning.specs.Numbers.{letter_values, absent}
-use Rattle.meaning.specs.Words.{if◌then◌else◌, Word, Words, snoc, find, has}
+use Rattle.meaning.specs.Words.{Word, Words, snoc, find, has}
 use Rattle.meaning.specs.Automaton.{states, border, link, chain}
 
 -- a number as a row has it

@@ -7,7 +7,8 @@ use native.Mathlib.Omega.{arith}
 use borrow.Author.Tests.{le-leb, lt-leb}
 use lib.Dec.{leb}
 use lib.ListN.{length, get_or, set}
-use Rattle.meaning.specs.Words.{if◌then◌else◌, Word, Words, Reading, snoc, size}
+use Rattle.std.specs.Prelude.{if◌then◌else◌}
+use Rattle.meaning.specs.Words.{Word, Words, Reading, snoc, size}
 use Rattle.meaning.specs.Table.{depth_field}
 use Rattle.meaning.specs.Readings.{readings_to, count_at}
 use Rattle.meaning.proofs.Lists.{snoc-length}

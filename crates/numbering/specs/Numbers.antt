@@ -1,8 +1,8 @@
 -- Readings by their numbers in the list, where the counts are exact.
-use Rattle.std.specs.Prelude.{◌≡◌, ℕ, ◌+◌, ◌-◌, ◌≤◌, ◌<◌, leb, length, get_or, take}
+use Rattle.std.specs.Prelude.{◌≡◌, ℕ, ◌+◌, ◌-◌, ◌≤◌, ◌<◌, leb, length, get_or, take, if◌then◌else◌}
 use mathlib.Core.List.{List, [], ◌∷◌, ◌++◌, Memᴰ}
 use Rattle.meaning.specs.Numbers.{most_counted}
-use Rattle.meaning.specs.Words.{if◌then◌else◌, Word, Words, Reading, snoc, size}
+use Rattle.meaning.specs.Words.{Word, Words, Reading, snoc, size}
 use Rattle.meaning.specs.Automaton.{chain}
 use Rattle.meaning.specs.Table.{over}
 use Rattle.meaning.specs.Readings.{readings_to}

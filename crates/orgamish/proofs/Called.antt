@@ -8,7 +8,8 @@ use lib.Dec.{ltb}
 use lib.ListN.{length}
 use borrow.Author.Tests.{lt-ltb, le-ltb}
 use Rattle.meaning.specs.Numbers.{longest_word}
-use Rattle.meaning.specs.Words.{if◌then◌else◌, Word, Words, word}
+use Rattle.std.specs.Prelude.{if◌then◌else◌}
+use Rattle.meaning.specs.Words.{Word, Words, word}
 use Rattle.meaning.specs.Automaton.{states, longest_chain}
 use Rattle.meaning.specs.Readings.{accepted, count_at}
 use Rattle.meaning.specs.Plain.{Allowed}

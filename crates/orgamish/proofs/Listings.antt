@@ -9,7 +9,8 @@ use native.Mathlib.Omega.{arith}
 use borrow.Author.Tests.{ltb-false, lt-ltb, le-ltb}
 use lib.Dec.{leb, ltb}
 use lib.ListN.{length, get_or, get_elem?, take, length-append}
-use Rattle.meaning.specs.Words.{if◌then◌else◌, Word, Words, Reading, word, joined}
+use Rattle.std.specs.Prelude.{if◌then◌else◌}
+use Rattle.meaning.specs.Words.{Word, Words, Reading, word, joined}
 use Rattle.meaning.specs.Table.{over}
 use Rattle.meaning.specs.Readings.{readings, count_at}
 use Rattle.meaning.specs.Listing.{is_reading, next_reading}

@@ -5,7 +5,8 @@ use mathlib.Core.List.{List, [], ◌∷◌}
 use Prim.Native.Nat.{ℕ, ◌≤◌, ◌<◌}
 use borrow.Author.Tests.{lt-ltb, le-ltb}
 use lib.ListN.{length, take}
-use Rattle.meaning.specs.Words.{if◌then◌else◌, Word, Words, find, is_some}
+use Rattle.std.specs.Prelude.{if◌then◌else◌}
+use Rattle.meaning.specs.Words.{Word, Words, find, is_some}
 use Rattle.meaning.specs.Readings.{readings}
 use Rattle.meaning.specs.Plain.{Dictionary}
 use Rattle.meaning.proofs.Numbers.{has_number}

@@ -14,7 +14,7 @@ use Rattle.meaning.specs.Numbers.{letter_values, most_counted}
 use Rattle.meaning.specs.Words.{Word, Words, Reading, find}
 use Rattle.meaning.specs.Automaton.{longest_chain}
 use Rattle.meaning.specs.Table.{table, narrow_table, over}
-use Rattle.meaning.specs.Readings.{readings, accepted, count_at, count_column}
+use Rattle.meaning.specs.Readings.{readings, count_at, count_column}
 use Rattle.meaning.specs.Listing.{next_reading}
 use Rattle.meaning.specs.Plain.{Dictionary, Allowed, ProperPrefix, ProperSuffix, NoneIs, Unambiguous}
 use Rattle.meaning.proofs.Readings.{is_reading_is}

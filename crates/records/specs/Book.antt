@@ -1,6 +1,6 @@
 -- A book: its words, then its blocks, or the first refusal.
-use Rattle.std.specs.Prelude.{◌≡◌, List, [], ℕ, zero, suc, ◌+◌, ◌*◌, ◌≤◌, ltb, length, take}
-use Rattle.meaning.specs.Words.{Words, word, snoc, total, if◌then◌else◌}
+use Rattle.std.specs.Prelude.{◌≡◌, List, [], ℕ, zero, suc, ◌+◌, ◌*◌, ◌≤◌, ltb, length, take, if◌then◌else◌}
+use Rattle.meaning.specs.Words.{Words, word, snoc, total}
 use Rattle.letters.specs.Letters.{part}
 use Rattle.letters.specs.Record.{block_at, text_at}
 use Rattle.letters.specs.declared.record.BlockRecord.{BlockRecord}

@@ -1,7 +1,7 @@
 -- How a repeated word is found: the words are kept in classes, and for each the last word before it of its class.
-use Rattle.std.specs.Prelude.{◌≡◌, List, [], ◌∷◌, ℕ, zero, suc, ◌+◌, ◌*◌, ◌≤◌, ◌<◌, ◌%◌, length, get_or, set, eqb}
+use Rattle.std.specs.Prelude.{◌≡◌, List, [], ◌∷◌, ℕ, zero, suc, ◌+◌, ◌*◌, ◌≤◌, ◌<◌, ◌%◌, length, get_or, set, eqb, if◌then◌else◌}
 use Rattle.meaning.specs.Numbers.{most_words, most_letters}
-use Rattle.meaning.specs.Words.{if◌then◌else◌, Word, Words, snoc, word, total}
+use Rattle.meaning.specs.Words.{Word, Words, snoc, word, total}
 use Rattle.letters.specs.Letters.{mapped}
 use Rattle.letters.specs.Record.{word_at}
 use Rattle.letters.specs.declared.record.Record.{Record}

@@ -1,7 +1,7 @@
 -- The run of word records: the words, or the first refusal.
-use Rattle.std.specs.Prelude.{Bool, true, false, List, [], ℕ, zero, suc, ◌+◌, length, leb, ltb, eqb}
+use Rattle.std.specs.Prelude.{Bool, true, false, List, [], ℕ, zero, suc, ◌+◌, length, leb, ltb, eqb, if◌then◌else◌}
 use Rattle.meaning.specs.Numbers.{most_words, most_letters, longest_book}
-use Rattle.meaning.specs.Words.{if◌then◌else◌, Word as Letters, Words, snoc, has, total}
+use Rattle.meaning.specs.Words.{Word as Letters, Words, snoc, has, total}
 use Rattle.letters.specs.Letters.{mapped}
 use Rattle.letters.specs.Record.{record_at, word_at, word_len}
 use Rattle.letters.specs.declared.record.Record.{Record}

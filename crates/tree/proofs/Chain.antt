@@ -12,7 +12,8 @@ use lib.ListN.{length, drop, get_or-eq_default, drop_of_length-le}
 use lib.Seq.{drop-cons}
 use borrow.Author.Tests.{eq-eqb, ne_eqb}
 use Rattle.meaning.specs.Numbers.{absent}
-use Rattle.meaning.specs.Words.{if◌then◌else◌, Word, Words, find, word, size}
+use Rattle.std.specs.Prelude.{if◌then◌else◌}
+use Rattle.meaning.specs.Words.{Word, Words, find, word, size}
 use Rattle.meaning.specs.Automaton.{nearest, cons_found, chain, longest_of}
 use Rattle.meaning.specs.Table.{stored, depth_field, word_field, link_field, chain_field}
 use Rattle.meaning.proofs.Find.{Asked, got, lacks, ask, none_or_some, find_some}

@@ -10,7 +10,8 @@ use native.Mathlib.Omega.{arith}
 use lib.Dec.{eqb}
 use lib.ListN.{length, get_or, take, drop, set, length-append, length-take, length-drop, length-set}
 use lib.Seq.{get_or-set_same, get_or-set_other, length-take-le, paste, paste-suc}
-use Rattle.meaning.specs.Words.{same, if◌then◌else◌}
+use Rattle.std.specs.Prelude.{if◌then◌else◌}
+use Rattle.meaning.specs.Words.{same}
 use Rattle.meaning.specs.Table.{width, narrow_width, over}
 use Rattle.tree.specs.Layout.{Narrowed}
 
@@ -21,14 +22,14 @@ same_on [] t i h k = absurd (omega (arith, h))
 same_on (x ∷ l) [] i h k = absurd (omega (arith, k))
 same_on (x ∷ l) (y ∷ t) zero h k = one (eqb x y)
   where
-    one : (b : Bool) → b ≡ if b then true else false
+    one : (b : Bool) → b ≡ (if b then true else false)
     one true = refl
     one false = refl
 same_on (x ∷ l) (y ∷ t) (suc i) h k = more (same_on l t i (omega (arith, h)) (omega (arith, k))) (eqb x y)
   where
     more : same (take i l) (take i t) && eqb (get_or l i 0) (get_or t i 0) ≡ same (take (suc i) l) (take (suc i) t) → (b : Bool)
         → (if b then same (take i l) (take i t) else false) && eqb (get_or l i 0) (get_or t i 0)
-        ≡ if b then same (take (suc i) l) (take (suc i) t) else false
+        ≡ (if b then same (take (suc i) l) (take (suc i) t) else false)
     more r true = r
     more r false = refl
 

@@ -9,7 +9,8 @@ use lib.Dec.{eqb}
 use lib.ListN.{length}
 use borrow.Author.Tests.{ne_eqb}
 use Rattle.meaning.specs.Numbers.{letter_values, most_states, absent}
-use Rattle.meaning.specs.Words.{if◌then◌else◌, Word, Words, snoc, find, word}
+use Rattle.std.specs.Prelude.{if◌then◌else◌}
+use Rattle.meaning.specs.Words.{Word, Words, snoc, find, word}
 use Rattle.meaning.specs.Table.{stored, child_from, first_child, last_letter, next_sibling, letter_field, child_field, sibling_field}
 use Rattle.meaning.proofs.Find.{Asked, ask, got, lacks, none_or_some, none_unless, find_some}
 use Rattle.meaning.proofs.Children.{NoChild, LeastChild, child_from_some, child_from_none, child_from_is, child_from_no, last_letter_snoc, sibling_snoc}

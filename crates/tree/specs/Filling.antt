@@ -1,8 +1,8 @@
 -- What the functions that fill in borders, links and chains ask and leave, and what those ask that read them.
-use Rattle.std.specs.Prelude.{◌≡◌, List, ℕ, ◌*◌, ◌≤◌, ◌<◌, eqb, length, get_or}
+use Rattle.std.specs.Prelude.{◌≡◌, List, ℕ, ◌*◌, ◌≤◌, ◌<◌, eqb, length, get_or, if◌then◌else◌}
 use Rattle.std.proofs.Math.Option.{some}
 use Rattle.meaning.specs.Numbers.{absent}
-use Rattle.meaning.specs.Words.{if◌then◌else◌, Words, word}
+use Rattle.meaning.specs.Words.{Words, word}
 use Rattle.meaning.specs.Automaton.{border as borderState}
 use Rattle.meaning.specs.Table.{width, border_field, link_field, chain_field}
 use Rattle.tree.specs.Layout.{field_at}

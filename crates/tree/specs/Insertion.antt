@@ -1,8 +1,8 @@
 -- What the functions that insert words ask and leave.
 use Rattle.std.proofs.Math.Option.{none, some}
-use Rattle.std.specs.Prelude.{◌≡◌, List, [], ℕ, suc, ◌+◌, ◌*◌, ◌%◌, ◌≤◌, ◌<◌, eqb, length, get_or, set}
+use Rattle.std.specs.Prelude.{◌≡◌, List, [], ℕ, suc, ◌+◌, ◌*◌, ◌%◌, ◌≤◌, ◌<◌, eqb, length, get_or, set, if◌then◌else◌}
 use Rattle.meaning.specs.Numbers.{absent, letter_values, most_words, longest_word, most_states}
-use Rattle.meaning.specs.Words.{if◌then◌else◌, Word, Words, snoc, find, word}
+use Rattle.meaning.specs.Words.{Word, Words, snoc, find, word}
 use Rattle.meaning.specs.Automaton.{prefixes, add, add_all}
 use Rattle.meaning.specs.Table.{stored, child_from, width, child_field, sibling_field}
 use Rattle.meaning.specs.Plain.{LettersBelow}

@@ -8,7 +8,8 @@ use borrow.Author.Tests.{eq-eqb, ne_eqb}
 use lib.Dec.{eqb}
 use lib.ListN.{length, get_or}
 use Rattle.meaning.specs.Numbers.{most_counted}
-use Rattle.meaning.specs.Words.{Word, Words, if◌then◌else◌}
+use Rattle.std.specs.Prelude.{if◌then◌else◌}
+use Rattle.meaning.specs.Words.{Word, Words}
 use Rattle.meaning.specs.Readings.{count_at}
 use Rattle.letters.specs.Letters.{mapped}
 use Rattle.records.specs.Run.{Run}

@@ -4,7 +4,7 @@ use mathlib.Core.Bool.{Bool, false}
 use native.Mathlib.Omega.{arith}
 use borrow.Author.Tests.{lt-ltb, le-ltb}
 use lib.ListN.{length, take}
-use Rattle.meaning.specs.Words.{if◌then◌else◌}
+use Rattle.std.specs.Prelude.{if◌then◌else◌}
 use Rattle.meaning.specs.Listing.{is_reading}
 use Rattle.orgamish.proofs.lists.is_given.Statement.{statement}
 use Rattle.orgamish.proofs.lists.is_given.Tie as tie

@@ -8,7 +8,8 @@ use native.Mathlib.Omega.{arith}
 use borrow.Author.Rules.{rules}
 use borrow.Author.Tests.{not-true, not-false}
 use lib.ListN.{length, take}
-use Rattle.meaning.specs.Words.{if◌then◌else◌, Word, Words, Reading}
+use Rattle.std.specs.Prelude.{if◌then◌else◌}
+use Rattle.meaning.specs.Words.{Word, Words, Reading}
 use Rattle.meaning.specs.Listing.{next_reading}
 use Rattle.meaning.specs.Plain.{Allowed}
 use Rattle.meaning.proofs.Readings.{is_reading_is}

@@ -5,7 +5,8 @@ use mathlib.Core.List.{List, [], ◌∷◌}
 use Prim.Native.Nat.{ℕ}
 use native.Mathlib.Omega.{arith}
 use borrow.Author.Rules.{rules}
-use Rattle.meaning.specs.Words.{Words, if◌then◌else◌}
+use Rattle.std.specs.Prelude.{if◌then◌else◌}
+use Rattle.meaning.specs.Words.{Words}
 use Rattle.meaning.specs.Table.{over}
 use Rattle.meaning.proofs.States.{allowed_bounded}
 use Rattle.records.specs.Run.{Run}
