@@ -1,7 +1,7 @@
 // How far a text can be read: the longest of its prefixes that can still become a reading.
 ghost use Rattle.std.specs.Prelude.{◌≡◌, length};
 ghost use Rattle.meaning.specs.Words.{Word, Words};
-ghost use Rattle.meaning.specs.Readings.{viable, farthest as farthestOf};
+ghost use Rattle.meaning.specs.Readings.{viable, farthest as farthest_of};
 ghost use Rattle.columns.specs.Columns.{Scanned};
 ghost use Rattle.columns.specs.Reaching.{Counted, LastRead, Standing};
 
@@ -40,7 +40,7 @@ fn is_viable(table: &[u16], counts: &[u64], s: usize, i: usize) -> bool
 pub fn farthest(table: &[u16], states: &[u16], counts: &[u64], n: usize) -> usize
     requires { (X : Words) × (t : Word) × Scanned X t table.now states.now counts.now × (n ≡ length t) }
     ensures { (X : Words) (t : Word) → Scanned X t table.now states.now counts.now → n ≡ length t
-        → result ≡ farthestOf X t }
+        → result ≡ farthest_of X t }
 {
     let mut i = last_read(counts, n);
     while i < n {

@@ -56,8 +56,8 @@ pub fn write_ending(
     w: usize,
     reading: &mut [u16],
 )
-    requires more_fits { (X : Words) × (t : Word) × MoreFits X t table.now states.now counts.now i reading.old }
-    requires w_le_absent { w ≤ absent }
+    requires fits { (X : Words) × (t : Word) × MoreFits X t table.now states.now counts.now i reading.old }
+    requires small { w ≤ absent }
     ensures { (X : Words) (t : Word) → Readable X t table.now states.now counts.now i → reading.new ≡ over (snoc (first_reading X t i) w) reading.old }
 {
     let n = write_first(table, states, counts, i, reading);

@@ -11,7 +11,7 @@ use Rattle.meaning.specs.Words.{Words}
 use Rattle.letters.specs.Letters.{mapped}
 use Rattle.letters.proofs.Cases.{picked}
 use Rattle.records.specs.Run.{Run, ran, refused, run, book_words}
-use Rattle.records.specs.Book.{Blocks, texts, bad, blocks, Opened, opened, shut, with_words_lem, with_blocks, book}
+use Rattle.records.specs.Book.{Blocks, texts, bad, blocks, Opened, opened, shut, with_words, with_blocks, book}
 use Rattle.records.specs.Told.{blocks_tell, book_tells}
 use Rattle.records.proofs.Determined.{RanAs}
 use Rattle.records.proofs.Run.{Good, Ends, run_ended}
@@ -49,13 +49,13 @@ Good-book m b (shut number place) = Unit
 book_good : (m b : List ℕ) → Good-book m b (book m b)
 book_good m b = on (book_words m b) (words_good m b)
   where
-    with_words : (X : Words) (at : ℕ) → GoodWords m b X at → (B : Blocks) → blocks b at ≡ B
-        → Good-book m b (with_words_lem X at B)
-    with_words X at g (texts T) e = record { words = g; are = e }
-    with_words X at g (bad number n) e = tt
+    with_words_lem : (X : Words) (at : ℕ) → GoodWords m b X at → (B : Blocks) → blocks b at ≡ B
+        → Good-book m b (with_words X at B)
+    with_words_lem X at g (texts T) e = record { words = g; are = e }
+    with_words_lem X at g (bad number n) e = tt
 
     on : (r : Run) → Good-words m b r → Good-book m b (with_blocks b r)
-    on (ran X at) g = with_words X at g (blocks b at) refl
+    on (ran X at) g = with_words_lem X at g (blocks b at) refl
     on (refused number place) g = tt
 
 pub book_accepted : (m b : List ℕ) {X T : Words} {at : ℕ} → book m b ≡ opened X at T → GoodBook m b X at T
@@ -67,6 +67,6 @@ pub blocks_tell_lem : (b : List ℕ) {r : Run} {words letters at : ℕ} → RanA
 blocks_tell_lem b {r} {words} {letters} {at} d =
     rw (← d.count) (by_blocks d.X at (blocks b at) ∙ ap (λ (q : Run). book_tells (with_blocks b q)) (sym d.is))
   where
-    by_blocks : (X : Words) (at : ℕ) (B : Blocks) → blocks_tell (length X) at B ≡ book_tells (with_words_lem X at B)
+    by_blocks : (X : Words) (at : ℕ) (B : Blocks) → blocks_tell (length X) at B ≡ book_tells (with_words X at B)
     by_blocks X at (texts T) = refl
     by_blocks X at (bad number n) = refl

@@ -31,12 +31,12 @@ pub data Opened : Type 0 where
   opened : Words → ℕ → Words → Opened
   shut : ℕ → ℕ → Opened
 
-abbrev pub with_words_lem : Words → ℕ → Blocks → Opened
-with_words_lem X at (texts T) = opened X at T
-with_words_lem X at (bad number n) = shut number (length X + n)
+abbrev pub with_words : Words → ℕ → Blocks → Opened
+with_words X at (texts T) = opened X at T
+with_words X at (bad number n) = shut number (length X + n)
 
 abbrev pub with_blocks : List ℕ → Run → Opened
-with_blocks b (ran X at) = with_words_lem X at (blocks b at)
+with_blocks b (ran X at) = with_words X at (blocks b at)
 with_blocks b (refused number place) = shut number place
 
 abbrev pub book : List ℕ → List ℕ → Opened

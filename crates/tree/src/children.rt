@@ -18,7 +18,7 @@ pub struct Place {
 // Goes along at most as many siblings as letters are below a.
 pub fn seek(table: &[u16], p: usize, a: usize) -> Place
     requires at_state { (X S : Words) × AtState X S table.now p }
-    requires a_lt_letter_values { a < letter_values }
+    requires letter { a < letter_values }
     ensures { (X S : Words) → AtState X S table.now p → Sought S (word S p) a result.before result.next }
 {
     let mut before = NONE;
@@ -36,7 +36,7 @@ pub fn seek(table: &[u16], p: usize, a: usize) -> Place
 // The child of p with the letter a, or none.
 pub fn child_by(table: &[u16], p: usize, a: usize) -> usize
     requires at_state { (X S : Words) × AtState X S table.now p }
-    requires a_lt_letter_values { a < letter_values }
+    requires letter { a < letter_values }
     ensures { (X S : Words) → AtState X S table.now p → result ≡ stored (find S (snoc (word S p) a)) }
 {
     let place = seek(table, p, a);

@@ -28,7 +28,7 @@ pub const INDEX_LENGTH: usize = 4368;
 // The children of state p are noted in the block at base. Goes along them once, at most 256.
 fn note_children(table: &[u16], index: &mut [u16; INDEX_LENGTH], base: usize, p: usize)
     requires at_state { (X S : Words) × AtState X S table.now p }
-    requires letter_values_bound { (base + letter_values ≤ owners_at) × Empty index.old base }
+    requires room { (base + letter_values ≤ owners_at) × Empty index.old base }
     ensures { (X S : Words) → AtState X S table.now p → Filled S (word S p) base index.old index.new }
 {
     let mut c = first_child(table, p);
@@ -90,7 +90,7 @@ pub fn block_of(table: &[u16], index: &[u16; INDEX_LENGTH], v: usize) -> usize
 // The child of v with the letter a, or none: by the index where it has the children of v, else by the sibling walk.
 pub fn child_of(table: &[u16], index: &[u16; INDEX_LENGTH], v: usize, a: usize) -> usize
     requires indexed_at { (X S : Words) × IndexedAt X S table.now index.now v }
-    requires a_lt_letter_values { a < letter_values }
+    requires letter { a < letter_values }
     ensures { (X S : Words) → IndexedAt X S table.now index.now v → result ≡ stored (find S (snoc (word S v) a)) }
 {
     let base = block_of(table, index, v);
@@ -118,7 +118,7 @@ fn search_start(table: &[u16], a: usize) -> usize
 // The place of a child of the root with the letter a. Goes down the letters below a to the first that has a child, where one has.
 pub fn seek_root(table: &[u16], index: &[u16; INDEX_LENGTH], a: usize) -> Place
     requires indexed_at { (X S : Words) × IndexedAt X S table.now index.now 0 }
-    requires a_lt_letter_values { a < letter_values }
+    requires letter { a < letter_values }
     ensures { (X S : Words) → IndexedAt X S table.now index.now 0 → Sought S (word S 0) a result.before result.next }
 {
     let mut above = search_start(table, a);

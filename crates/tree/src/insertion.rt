@@ -75,7 +75,7 @@ fn claim_under(index: &mut [u16; INDEX_LENGTH], p: usize, a: usize)
 // The place of a child of p with the letter a: by the index where p is the root, else by the sibling walk.
 fn place_under(table: &[u16], index: &[u16; INDEX_LENGTH], p: usize, a: usize) -> Place
     requires indexed_at { (X S : Words) × IndexedAt X S table.now index.now p }
-    requires a_lt_letter_values { a < letter_values }
+    requires letter { a < letter_values }
     ensures { (X S : Words) → IndexedAt X S table.now index.now p → Sought S (word S p) a result.before result.next }
 {
     if p == 0 {

@@ -3,7 +3,7 @@ ghost use Rattle.std.specs.Prelude.{◌≡◌, ◌<◌};
 ghost use Rattle.std.proofs.Math.Option.{some};
 ghost use Rattle.meaning.specs.Numbers.{letter_values};
 ghost use Rattle.meaning.specs.Words.{Words, snoc, word};
-ghost use Rattle.meaning.specs.Automaton.{nearest, border as borderState};
+ghost use Rattle.meaning.specs.Automaton.{nearest, border as border_state};
 ghost use Rattle.tree.specs.Filling.{root_step, Bordered};
 
 use crate::index::{INDEX_LENGTH, child_of};
@@ -25,7 +25,7 @@ fn root_step(index: &[u16; INDEX_LENGTH], a: usize) -> usize
 // letters all steps together climb at most n borders.
 pub fn step(table: &[u16], index: &[u16; INDEX_LENGTH], s: usize, a: usize) -> usize
     requires bordered { (X S : Words) × Bordered X S table.now index.now s }
-    requires a_lt_letter_values { a < letter_values }
+    requires letter { a < letter_values }
     ensures { (X S : Words) → Bordered X S table.now index.now s → nearest S S (snoc (word S s) a) ≡ some result }
 {
     let mut v = s;
@@ -42,8 +42,8 @@ pub fn step(table: &[u16], index: &[u16; INDEX_LENGTH], s: usize, a: usize) -> u
 // The border of the child of p by the letter a: the root's children have the root, any other the step from p's border.
 pub fn child_border(table: &[u16], index: &[u16; INDEX_LENGTH], p: usize, a: usize) -> usize
     requires bordered { (X S : Words) × Bordered X S table.now index.now p }
-    requires a_lt_letter_values { a < letter_values }
-    ensures { (X S : Words) → Bordered X S table.now index.now p → borderState S (snoc (word S p) a) ≡ some result }
+    requires letter { a < letter_values }
+    ensures { (X S : Words) → Bordered X S table.now index.now p → border_state S (snoc (word S p) a) ≡ some result }
 {
     if p == 0 {
         return 0;
