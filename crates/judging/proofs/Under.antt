@@ -43,14 +43,14 @@ under_ran m d {X} {end} e = go (is_map m) refl
         let z : ◌≡◌ {A = ℕ} 0 1 = cc in absurd (omega arith)
 
 -- each byte to itself
-is-map : is_map identity ≡ true
-is-map = eq-eqb _ _ identity-length
+is_map_lem : is_map identity ≡ true
+is_map_lem = eq-eqb _ _ identity-length
 
 pub words_as_bytes : (d : List ℕ) → LettersBelow letter_values d → words_under identity d ≡ byte_dictionary d
-words_as_bytes d bytes = words_lent identity d is-map ∙ identity_dictionary d bytes
+words_as_bytes d bytes = words_lent identity d is_map_lem ∙ identity_dictionary d bytes
 
 pub book_as_bytes : (b : List ℕ) → LettersBelow letter_values b → book_under identity b ≡ byte_book b
-book_as_bytes b bytes = book_lent identity b is-map ∙ identity_book b bytes
+book_as_bytes b bytes = book_lent identity b is_map_lem ∙ identity_book b bytes
 
 -- .. so whatever a call answers by its words and its text, it answers by the bytes: take for `answer` any definition of `Calls`,
 -- as in λ run t. scan_tells run tb t ss cs

@@ -19,11 +19,11 @@ use Rattle.records.specs.Stored.{Stands, stop, step, place, Holds}
 use Rattle.records.proofs.Run.{stands_end, holds, Good, Ended, Ends, run_ended}
 use Rattle.records.proofs.Walking.{past_next}
 
-ended : (inBook : Bool) (m b : List ℕ) {X : Words} {at : ℕ} → run inBook (mapped m) b ≡ ran X at → Ended m b inBook X at
-ended inBook m b e = subst (Ends m b inBook) e (run_ended m b inBook)
+ended : (in_book : Bool) (m b : List ℕ) {X : Words} {at : ℕ} → run in_book (mapped m) b ≡ ran X at → Ended m b in_book X at
+ended in_book m b e = subst (Ends m b in_book) e (run_ended m b in_book)
 
-pub accepted : (inBook : Bool) (m b : List ℕ) {X : Words} {at : ℕ} → run inBook (mapped m) b ≡ ran X at → Good m b X at
-accepted inBook m b e = (ended inBook m b e).good
+pub accepted : (in_book : Bool) (m b : List ℕ) {X : Words} {at : ℕ} → run in_book (mapped m) b ≡ ran X at → Good m b X at
+accepted in_book m b e = (ended in_book m b e).good
 
 -- a dictionary by itself is its records and nothing else
 pub whole : (m b : List ℕ) {X : Words} {at : ℕ} → dictionary m b ≡ ran X at → at ≡ length b

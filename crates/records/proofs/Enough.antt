@@ -19,9 +19,9 @@ use Rattle.records.specs.Run.{record_after, Run, on_record, run_from, run}
 use Rattle.records.specs.Book.{Blocks, on_block, blocks_from, blocks}
 use Rattle.records.proofs.Run.{Joins, joins, Good, good_none, good_more}
 
-module _ (inBook : Bool) (m b : List ℕ) (g : ℕ) where
+module _ (in_book : Bool) (m b : List ℕ) (g : ℕ) where
   more_records : (f : ℕ) (X : Words) (at : ℕ) → length X + f ≡ suc most_words → Good m b X at
-      → run_from inBook (mapped m) b (f + g) X at ≡ run_from inBook (mapped m) b f X at
+      → run_from in_book (mapped m) b (f + g) X at ≡ run_from in_book (mapped m) b f X at
   more_records zero X at l h = absurd (omega (arith, h.few))
   more_records (suc f) X at l h =
       let e : suc f + g ≡ suc (f + g) = omega arith in
@@ -30,16 +30,16 @@ module _ (inBook : Bool) (m b : List ℕ) (g : ℕ) where
       (record_after (mapped m) b X at) refl)
     where
       more : ℕ → ℕ → Run
-      more k n = run_from inBook (mapped m) b k (snoc X (word_at (mapped m) b at n)) (at + 3 + n)
+      more k n = run_from in_book (mapped m) b k (snoc X (word_at (mapped m) b at n)) (at + 3 + n)
 
       on : ((n : ℕ) → Joins m b X at n → more (f + g) n ≡ more f n) → (r : Record) → record_after (mapped m) b X at ≡ r
-          → on_record inBook X at (more (f + g)) r ≡ on_record inBook X at (more f) r
+          → on_record in_book X at (more (f + g)) r ≡ on_record in_book X at (more f) r
       on go word.End j = refl
       on go word.Block j = refl
       on go (word.Word n) j = go n (joins m b X at n j)
       on go (word.Bad number) j = refl
 
-  pub run_enough : run_from inBook (mapped m) b (suc most_words + g) [] 0 ≡ run inBook (mapped m) b
+  pub run_enough : run_from in_book (mapped m) b (suc most_words + g) [] 0 ≡ run in_book (mapped m) b
   unfolding run
   run_enough = more_records (suc most_words) [] 0 refl (good_none m b)
 

@@ -18,31 +18,31 @@ use Rattle.records.specs.Run.{joining, joined as joined_by, record_after, Run, o
 use Rattle.records.specs.Book.{book, byte_book}
 
 -- two ways to take bytes as letters that agree on each part of the bytes give the same run
-module _ (inBook : Bool) (k ℓ : List ℕ → Letters) (b : List ℕ) (agree : (at n : ℕ) → k (part b at n) ≡ ℓ (part b at n)) where
+module _ (in_book : Bool) (k ℓ : List ℕ → Letters) (b : List ℕ) (agree : (at n : ℕ) → k (part b at n) ≡ ℓ (part b at n)) where
   after_agrees : (X : Words) (at : ℕ) (r : Record) → joined_by k b X at r ≡ joined_by ℓ b X at r
   after_agrees X at End = refl
   after_agrees X at Block = refl
   after_agrees X at (Word n) = ap (λ (w : Letters). joining (λ u. w) b X at n) (agree (at + 3) n)
   after_agrees X at (Bad number) = refl
 
-  from_agrees : (f : ℕ) (X : Words) (at : ℕ) → run_from inBook k b f X at ≡ run_from inBook ℓ b f X at
+  from_agrees : (f : ℕ) (X : Words) (at : ℕ) → run_from in_book k b f X at ≡ run_from in_book ℓ b f X at
   from_agrees zero X at = refl
   from_agrees (suc f) X at =
-      ap (on_record inBook X at (more k)) (after_agrees X at (record_at b at)) ∙ on (from_agrees f) (record_after ℓ b X at)
+      ap (on_record in_book X at (more k)) (after_agrees X at (record_at b at)) ∙ on (from_agrees f) (record_after ℓ b X at)
     where
       more : (List ℕ → Letters) → ℕ → Run
-      more j n = run_from inBook j b f (snoc X (word_at j b at n)) (at + 3 + n)
+      more j n = run_from in_book j b f (snoc X (word_at j b at n)) (at + 3 + n)
 
-      on : ((Y : Words) (p : ℕ) → run_from inBook k b f Y p ≡ run_from inBook ℓ b f Y p) → (r : Record)
-          → on_record inBook X at (more k) r ≡ on_record inBook X at (more ℓ) r
+      on : ((Y : Words) (p : ℕ) → run_from in_book k b f Y p ≡ run_from in_book ℓ b f Y p) → (r : Record)
+          → on_record in_book X at (more k) r ≡ on_record in_book X at (more ℓ) r
       on later End = refl
       on later Block = refl
       on later (Word n) =
           later (snoc X (word_at k b at n)) (at + 3 + n)
-          ∙ ap (λ (w : Letters). run_from inBook ℓ b f (snoc X w) (at + 3 + n)) (agree (at + 3) n)
+          ∙ ap (λ (w : Letters). run_from in_book ℓ b f (snoc X w) (at + 3 + n)) (agree (at + 3) n)
       on later (Bad number) = refl
 
-  run_agrees : run inBook k b ≡ run inBook ℓ b
+  run_agrees : run in_book k b ≡ run in_book ℓ b
   unfolding run
   run_agrees = from_agrees (suc most_words) [] 0
 
@@ -56,8 +56,8 @@ module _ (b : List ℕ) (bytes : LettersBelow letter_values b) where
       let i-in : i < n = omega arith in
       rw (get_or-take n (drop at b) i 0 i-in, get_or-drop at b i 0) (bytes (at + i) (omega arith)))
 
-  own_run : (inBook : Bool) → run inBook (mapped identity) b ≡ run inBook (λ u. u) b
-  own_run inBook = run_agrees inBook (mapped identity) (λ u. u) b own_letters
+  own_run : (in_book : Bool) → run in_book (mapped identity) b ≡ run in_book (λ u. u) b
+  own_run in_book = run_agrees in_book (mapped identity) (λ u. u) b own_letters
 
   pub identity_dictionary : dictionary identity b ≡ byte_dictionary b
   identity_dictionary = own_run false

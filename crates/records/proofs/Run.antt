@@ -121,36 +121,36 @@ module _ (m b : List ℕ) where
       }
 
   -- the words of a run that is not refused; a dictionary by itself has nothing after them
-  pub record Ended (inBook : Bool) (X : Words) (at : ℕ) : Type 0 where
+  pub record Ended (in_book : Bool) (X : Words) (at : ℕ) : Type 0 where
     pub good : Good m b X at
-    pub whole : inBook ≡ false → at ≡ length b
+    pub whole : in_book ≡ false → at ≡ length b
 
   abbrev pub Ends : Bool → Run → Type 0
-  Ends inBook (ran X at) = Ended inBook X at
-  Ends inBook (refused number place) = Unit
+  Ends in_book (ran X at) = Ended in_book X at
+  Ends in_book (refused number place) = Unit
 
   -- by any bound on the records that the words so far leave room for
-  run_ends : (inBook : Bool) (f : ℕ) (X : Words) (at : ℕ) → length X + f ≡ suc most_words → Good m b X at
-      → Ends inBook (run_from inBook (mapped m) b f X at)
-  run_ends inBook zero X at l g = absurd (omega (arith, g.few))
-  run_ends inBook (suc f) X at l g =
+  run_ends : (in_book : Bool) (f : ℕ) (X : Words) (at : ℕ) → length X + f ≡ suc most_words → Good m b X at
+      → Ends in_book (run_from in_book (mapped m) b f X at)
+  run_ends in_book zero X at l g = absurd (omega (arith, g.few))
+  run_ends in_book (suc f) X at l g =
       on
-      (λ n j. run_ends inBook f _ _ (omega (arith, snoc-length X (word_at (mapped m) b at n))) (good_more X at n j g))
+      (λ n j. run_ends in_book f _ _ (omega (arith, snoc-length X (word_at (mapped m) b at n))) (good_more X at n j g))
       (record_after (mapped m) b X at) refl
     where
       more : ℕ → Run
-      more n = run_from inBook (mapped m) b f (snoc X (word_at (mapped m) b at n)) (at + 3 + n)
+      more n = run_from in_book (mapped m) b f (snoc X (word_at (mapped m) b at n)) (at + 3 + n)
 
       not_both : {A : Type 0} (t : Bool) → t ≡ true → t ≡ false → A
       not_both t p q = let z : ◌≡◌ {A = ℕ} 0 1 = cc in absurd (omega arith)
 
-      on : ((n : ℕ) → Joins m b X at n → Ends inBook (more n)) → (r : Record) → record_after (mapped m) b X at ≡ r
-          → Ends inBook (on_record inBook X at more r)
+      on : ((n : ℕ) → Joins m b X at n → Ends in_book (more n)) → (r : Record) → record_after (mapped m) b X at ≡ r
+          → Ends in_book (on_record in_book X at more r)
       on go End e = let l = at_end_lem m b X at e in record { good = g; whole = λ q. omega (arith, g.within) }
-      on go Block e = picked (Ends inBook) inBook (λ p. record { good = g; whole = λ q. not_both inBook p q }) (λ q. tt)
+      on go Block e = picked (Ends in_book) in_book (λ p. record { good = g; whole = λ q. not_both in_book p q }) (λ q. tt)
       on go (Word n) e = go n (joins m b X at n e)
       on go (Bad number) e = tt
 
-  pub run_ended : (inBook : Bool) → Ends inBook (run inBook (mapped m) b)
+  pub run_ended : (in_book : Bool) → Ends in_book (run in_book (mapped m) b)
   unfolding run
-  run_ended inBook = run_ends inBook (suc most_words) [] 0 refl good_none
+  run_ended in_book = run_ends in_book (suc most_words) [] 0 refl good_none

@@ -22,19 +22,19 @@ use Rattle.records.proofs.Run.{stands_end, Joins, joins, Good, good_none, good_m
 use Rattle.records.proofs.Indexing.{indexed_none}
 
 -- the walk has come to an offset, past so many words with so many letters, which the index has
-pub record Walking (inBook : Bool) (m b index : List ℕ) (words letters at : ℕ) : Type 0 where
+pub record Walking (in_book : Bool) (m b index : List ℕ) (words letters at : ℕ) : Type 0 where
   pub X : Words
   pub good : Good m b X at
   pub count : length X ≡ words
   pub sum : total X ≡ letters
   pub indexed : Indexed m b index X
-  pub goes : run inBook (mapped m) b ≡ run_from inBook (mapped m) b (suc most_words - words) X at
+  pub goes : run in_book (mapped m) b ≡ run_from in_book (mapped m) b (suc most_words - words) X at
 
-pub starts : (inBook : Bool) (m b : List ℕ) → Walking inBook m b (replicate entries 0) 0 0 0
+pub starts : (in_book : Bool) (m b : List ℕ) → Walking in_book m b (replicate entries 0) 0 0 0
 unfolding run
-starts inBook m b = record { X = []; good = good_none m b; count = refl; sum = refl; indexed = indexed_none m b; goes = refl }
+starts in_book m b = record { X = []; good = good_none m b; count = refl; sum = refl; indexed = indexed_none m b; goes = refl }
 
-module _ {inBook : Bool} {m b index : List ℕ} {words letters at : ℕ} (w : Walking inBook m b index words letters at) where
+module _ {in_book : Bool} {m b index : List ℕ} {words letters at : ℕ} (w : Walking in_book m b index words letters at) where
   pub known : Known m b index at words letters w.X
   known = record {
     before = record { stands = w.good.stands; count = w.count; sum = w.sum };
@@ -46,30 +46,30 @@ module _ {inBook : Bool} {m b index : List ℕ} {words letters at : ℕ} (w : Wa
   offset = omega (arith, stands_end w.good.stands, w.count, w.sum)
 
   pub more : ℕ → Run
-  more n = run_from inBook (mapped m) b (most_words - words) (snoc w.X (word_at (mapped m) b at n)) (at + 3 + n)
+  more n = run_from in_book (mapped m) b (most_words - words) (snoc w.X (word_at (mapped m) b at n)) (at + 3 + n)
 
   -- what the run comes to, by the record here
-  comes : (r : Record) → r ≡ record_after (mapped m) b w.X at → run inBook (mapped m) b ≡ on_record inBook w.X at more r
+  comes : (r : Record) → r ≡ record_after (mapped m) b w.X at → run in_book (mapped m) b ≡ on_record in_book w.X at more r
   unfolding more
   comes r e =
       let f : suc most_words - words ≡ suc (most_words - words) = omega (arith, w.good.few, w.count) in
-      w.goes ∙ ap (λ (k : ℕ). run_from inBook (mapped m) b k w.X at) f ∙ ap (on_record inBook w.X at more) (sym e)
+      w.goes ∙ ap (λ (k : ℕ). run_from in_book (mapped m) b k w.X at) f ∙ ap (on_record in_book w.X at more) (sym e)
 
   -- the record here ends the walk
   pub ended : {r : Record} → r ≡ record_after (mapped m) b w.X at
-      → on_record inBook w.X at more r ≡ ran w.X at
-      → answer (words ∷ letters ∷ at ∷ []) ≡ run_tells (run inBook (mapped m) b)
+      → on_record in_book w.X at more r ≡ ran w.X at
+      → answer (words ∷ letters ∷ at ∷ []) ≡ run_tells (run in_book (mapped m) b)
   ended {r} e q = rw (comes r e, q, w.count, w.sum)
 
   pub stopped : {r : Record} {number : ℕ} → r ≡ record_after (mapped m) b w.X at
-      → on_record inBook w.X at more r ≡ refused number (length w.X)
-      → refusal number words ≡ run_tells (run inBook (mapped m) b)
+      → on_record in_book w.X at more r ≡ refused number (length w.X)
+      → refusal number words ≡ run_tells (run in_book (mapped m) b)
   stopped {r} e q = rw (comes r e, q, w.count)
 
   -- the record here is a word, which joins the index
   pub next : {index' : List ℕ} (n : ℕ) → Word n ≡ record_after (mapped m) b w.X at
       → Indexed m b index' (snoc w.X (word_at (mapped m) b at n))
-      → Walking inBook m b index' (words + 1) (letters + n) (at + 3 + n)
+      → Walking in_book m b index' (words + 1) (letters + n) (at + 3 + n)
   unfolding more
   next n e ι =
       let j : Joins m b w.X at n = joins m b w.X at n (sym e) in
@@ -81,7 +81,7 @@ module _ {inBook : Bool} {m b index : List ℕ} {words letters at : ℕ} (w : Wa
         count = omega (arith, snoc-length w.X v, w.count);
         sum = omega (arith, total-append w.X (v ∷ []), word_size m b at n j.stands, w.sum);
         indexed = ι;
-        goes = comes (Word n) e ∙ ap (λ (k : ℕ). run_from inBook (mapped m) b k (snoc w.X v) (at + 3 + n)) fuel;
+        goes = comes (Word n) e ∙ ap (λ (k : ℕ). run_from in_book (mapped m) b k (snoc w.X v) (at + 3 + n)) fuel;
       }
 
 -- past the record at an offset: nothing where it is no word, else its bytes

@@ -32,20 +32,20 @@ pub data Run : Type 0 where
 
 -- how the run goes on at a record, after the words X: a block mark ends it in a book, and is 1 elsewhere
 abbrev pub on_record : Bool → Words → ℕ → (ℕ → Run) → Record → Run
-on_record inBook X at more End = ran X at
-on_record inBook X at more Block = if inBook then ran X at else refused 1 (length X)
-on_record inBook X at more (Word n) = more n
-on_record inBook X at more (Bad number) = refused number (length X)
+on_record in_book X at more End = ran X at
+on_record in_book X at more Block = if in_book then ran X at else refused 1 (length X)
+on_record in_book X at more (Word n) = more n
+on_record in_book X at more (Bad number) = refused number (length X)
 
 -- the run from an offset on, after the words X; the first number bounds the records that are read
 abbrev pub run_from : Bool → (List ℕ → Letters) → List ℕ → ℕ → Words → ℕ → Run
-run_from inBook ℓ b zero X at = ran X at
-run_from inBook ℓ b (suc f) X at =
-    on_record inBook X at (λ n. run_from inBook ℓ b f (snoc X (word_at ℓ b at n)) (at + 3 + n)) (record_after ℓ b X at)
+run_from in_book ℓ b zero X at = ran X at
+run_from in_book ℓ b (suc f) X at =
+    on_record in_book X at (λ n. run_from in_book ℓ b f (snoc X (word_at ℓ b at n)) (at + 3 + n)) (record_after ℓ b X at)
 
 -- one record more than there may be words is enough, since it is refused
 unfoldable pub run : Bool → (List ℕ → Letters) → List ℕ → Run
-run inBook ℓ b = run_from inBook ℓ b (suc most_words) [] 0
+run in_book ℓ b = run_from in_book ℓ b (suc most_words) [] 0
 
 -- the words of a book: 16, then the word records
 abbrev pub book_run : (List ℕ → Letters) → List ℕ → Run

@@ -3,7 +3,7 @@ use Rattle.std.specs.Prelude.{◌≡◌, List, ℕ, ◌*◌, ◌≤◌, ◌<◌,
 use Rattle.std.proofs.Math.Option.{some}
 use Rattle.meaning.specs.Numbers.{absent}
 use Rattle.meaning.specs.Words.{Words, word}
-use Rattle.meaning.specs.Automaton.{border as borderState}
+use Rattle.meaning.specs.Automaton.{border as border_state}
 use Rattle.meaning.specs.Table.{width, border_field, link_field, chain_field}
 use Rattle.tree.specs.Layout.{field_at}
 use Rattle.tree.specs.Tree.{Right, Tree, Whole, border_of, link_of, chain_of}
@@ -30,7 +30,7 @@ pub record LinkedAt (X S : Words) (t : List ℕ) (s : ℕ) : Type 0 where
 pub record CountedAt (X S : Words) (t : List ℕ) (c b : ℕ) : Type 0 where
   pub tree : Tree X S t
   pub inside : c < length S
-  pub border : borderState S (word S c) ≡ some b
+  pub border : border_state S (word S c) ≡ some b
   pub chain : Right S t chain_field (chain_of X) b
 
 -- the border, the link and the chain's length of state s are right
