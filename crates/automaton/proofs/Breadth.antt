@@ -18,6 +18,7 @@ use Rattle.meaning.proofs.States.{Bounded, trie_front}
 use Rattle.tree.specs.Layout.{field_at}
 use Rattle.tree.specs.Tree.{border_of, link_of, chain_of}
 use Rattle.tree.specs.Insertion.{Growing}
+use Rattle.tree.specs.declared.index.ChildIndex.{ChildIndex}
 use Rattle.tree.specs.Filling.{Known, SameTree, Completed}
 use Rattle.automaton.specs.Queue.{Settled, unsettled, depth_in, Queued, Taking, Taken}
 use Rattle.automaton.proofs.Known.{same_refl, same_trans}
@@ -56,16 +57,16 @@ parent {S} σ s l h = go (snoc_view (word S s)) refl
         }
 
 -- the first `head` states of the queue are taken out: their children have their borders
-pub record Going (X S : Words) (t₀ t index q : List ℕ) (head tail : ℕ) : Type 0 where
+pub record Going (X S : Words) (t₀ t : List ℕ) (index : ChildIndex) (q : List ℕ) (head : ℕ) : Type 0 where
   pub same : SameTree (length S) t₀ t
-  pub queued : Queued X S t index q tail
-  pub low : head ≤ tail
+  pub queued : Queued X S t index q
+  pub low : head ≤ length q
   pub done : (i : ℕ) → i < head → (x c : ℕ) → find S (snoc (word S (get_or q i 0)) x) ≡ some c → Settled t c
-  pub limit : head < tail → (i : ℕ) → i < tail → depth_in S q i ≤ suc (depth_in S q head)
+  pub limit : head < length q → (i : ℕ) → i < length q → depth_in S q i ≤ suc (depth_in S q head)
 
-module _ {X S : Words} {t₀ t index q : List ℕ} {head tail : ℕ} (φ : Going X S t₀ t index q head tail) where
+module _ {X S : Words} {t₀ t : List ℕ} {index : ChildIndex} {q : List ℕ} {head : ℕ} (φ : Going X S t₀ t index q head) where
   -- where every state of fewer than d letters that is in the queue is taken out, every state of at most d letters is in it
-  reached : (d : ℕ) → ((i : ℕ) → i < tail → depth_in S q i < d → i < head) → (k : ℕ) → k ≤ d → (s : ℕ) → s < length S → length (word S s) ≡ k
+  reached : (d : ℕ) → ((i : ℕ) → i < length q → depth_in S q i < d → i < head) → (k : ℕ) → k ≤ d → (s : ℕ) → s < length S → length (word S s) ≡ k
       → (s ≡ 0) ⊎ Settled t s
   reached d out zero h s l e = inl (root_only φ.queued.tree.states l (empty (word S s) e))
     where
@@ -83,7 +84,7 @@ module _ {X S : Words} {t₀ t index q : List ℕ} {head tail : ℕ} (φ : Going
   known_of s l (inr h) = φ.queued.known s l h
 
   -- so the state at the head can be taken out, ..
-  pub takes : head < tail → {p : ℕ} → p ≡ get_or q head 0 → Taking X S t index q tail p
+  pub takes : head < length q → {p : ℕ} → p ≡ get_or q head 0 → Taking X S t index q p
   takes h {p} e = rw e (record {
     queued = φ.queued;
     inside = φ.queued.entries head h;
@@ -91,7 +92,7 @@ module _ {X S : Words} {t₀ t index q : List ℕ} {head tail : ℕ} (φ : Going
     limit = φ.limit h;
   })
     where
-      out : (i : ℕ) → i < tail → depth_in S q i < depth_in S q head → i < head
+      out : (i : ℕ) → i < length q → depth_in S q i < depth_in S q head → i < head
       out i l m = go (dec_lt i head)
         where
           go : Dec (i < head) → i < head
@@ -99,7 +100,7 @@ module _ {X S : Words} {t₀ t index q : List ℕ} {head tail : ℕ} (φ : Going
           go (no k) = absurd (omega (arith, φ.queued.rising head i (omega arith) l))
 
   -- .. and at the end every state is filled in
-  pub ends : tail ≤ head → Completed X S t₀ t
+  pub ends : length q ≤ head → Completed X S t₀ t
   ends h = record {
     whole = record {
       tree = φ.queued.tree;
@@ -113,9 +114,9 @@ module _ {X S : Words} {t₀ t index q : List ℕ} {head tail : ℕ} (φ : Going
       all : (s : ℕ) → s < length S → Known X S t s
       all s l = known_of s l (reached (length (word S s)) (λ i m k. omega arith) (length (word S s)) (omega arith) s l refl)
 
-  pub goes : head < tail → {p r : ℕ} {t' q' : List ℕ} → p ≡ get_or q head 0 → Taken X S t t' index q q' tail r p
-      → Going X S t₀ t' index q' (head + 1) r
-  goes h {p} {r} {t'} {q'} e k = record {
+  pub goes : head < length q → {p : ℕ} {t' q' : List ℕ} → p ≡ get_or q head 0 → Taken X S t t' index q q' p
+      → Going X S t₀ t' index q' (head + 1)
+  goes h {p} {t'} {q'} e k = record {
     same = same_trans φ.same k.longer.grown.same;
     queued = k.longer.taking.queued;
     low = omega (arith, k.longer.more);
@@ -135,7 +136,7 @@ module _ {X S : Words} {t₀ t index q : List ℕ} {head tail : ℕ} (φ : Going
               let j : i ≡ head = omega arith in
               k.children x c (ap (λ (s : ℕ). find S (snoc (word S s) x)) (sym (ap (λ (n : ℕ). get_or q' n 0) j ∙ here)) ∙ f)
 
-      limit : head + 1 < r → (i : ℕ) → i < r → depth_in S q' i ≤ suc (depth_in S q' (head + 1))
+      limit : head + 1 < length q' → (i : ℕ) → i < length q' → depth_in S q' i ≤ suc (depth_in S q' (head + 1))
       limit l i m =
           omega (
             arith,
@@ -145,14 +146,15 @@ module _ {X S : Words} {t₀ t index q : List ℕ} {head tail : ℕ} (φ : Going
           )
 
 -- the queue of the root alone
-pub begins : {X S : Words} {t index q : List ℕ} {n : ℕ} → Growing X S t index n → most_states ≤ length q → get_or q 0 0 ≡ 0
-    → Going X S t t index q 0 1
-begins {X} {S} {t} {index} {q} γ long e = record {
+abbrev alone : List ℕ
+alone = 0 ∷ []
+
+pub begins : {X S : Words} {t : List ℕ} {index : ChildIndex} {n : ℕ} → Growing X S t index n → Going X S t t index alone 0
+begins {X} {S} {t} {index} γ = record {
   same = same_refl t;
   queued = record {
     tree = γ.tree;
     indexed = γ.indexed;
-    long = long;
     root = record {
       border = γ.blank.borders 0 inside ∙ sym (ap (border_of S) (root_word γ.tree.states));
       link = γ.blank.links 0 inside ∙ sym (ap (link_of X S) (root_word γ.tree.states));
@@ -166,18 +168,18 @@ begins {X} {S} {t} {index} {q} γ long e = record {
   };
   low = omega arith;
   done = λ i l. absurd (omega arith);
-  limit = λ h i l. rw (first i l, e) (omega arith);
+  limit = λ h i l. rw (first i l) (omega arith);
 }
   where
     inside : 0 < length S
     inside = root_inside γ.tree.states
 
-    first : (i : ℕ) → i < 1 → get_or q i 0 ≡ 0
-    first i l = let z : i ≡ 0 = omega arith in ap (λ (j : ℕ). get_or q j 0) z ∙ e
+    first : (i : ℕ) → i < 1 → get_or alone i 0 ≡ 0
+    first i l = let z : i ≡ 0 = omega arith in rw z
 
-    seen : (s : ℕ) → s < length S → (s ≡ 0) ⊎ Settled t s → (i : ℕ) × (i < 1) × (get_or q i 0 ≡ s)
-    seen s l (inl z) = (0, omega arith, e ∙ sym z)
+    seen : (s : ℕ) → s < length S → (s ≡ 0) ⊎ Settled t s → (i : ℕ) × (i < 1) × (get_or alone i 0 ≡ s)
+    seen s l (inl z) = (0, omega arith, sym z)
     seen s l (inr h) = absurd (h (γ.blank.borders s l))
 
-pub queue_fits : {X S : Words} {t index q : List ℕ} {tail : ℕ} → Queued X S t index q tail → tail ≤ most_states
+pub queue_fits : {X S : Words} {t : List ℕ} {index : ChildIndex} {q : List ℕ} → Queued X S t index q → length q ≤ most_states
 queue_fits κ = omega (arith, κ.count, κ.tree.states.few)

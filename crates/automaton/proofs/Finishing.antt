@@ -12,6 +12,7 @@ use Rattle.meaning.proofs.Rows.{rows_at, rows_take, table-length, narrow_length,
 use Rattle.tree.specs.declared.layout.Form.TheVariants.{Wide, Narrow}
 use Rattle.tree.specs.Layout.{field_at, Narrowed}
 use Rattle.tree.specs.Insertion.{Growing}
+use Rattle.tree.specs.declared.index.ChildIndex.{ChildIndex}
 use Rattle.tree.specs.Filling.{Completed}
 use Rattle.automaton.specs.Building.{Planted, Builds}
 use Rattle.tree.proofs.Whole.{whole_rows}
@@ -27,7 +28,7 @@ over_by vs l l' long front past = sym (take-append-drop (length vs) l') ∙ ap�
         (length-drop (length vs) l' ∙ ap (λ (k : ℕ). k - length vs) long ∙ sym (length-drop (length vs) l))
         (λ i h. get_or-drop (length vs) l' i 0 ∙ past (length vs + i) (omega arith) ∙ sym (get_or-drop (length vs) l i 0))
 
-module _ {X : Words} {t t₁ index : List ℕ} {n : ℕ} (π : Planted X t t₁ index n) where
+module _ {X : Words} {t t₁ : List ℕ} {index : ChildIndex} {n : ℕ} (π : Planted X t t₁ index n) where
   pub all_planted : Growing X (states X) t₁ index (length (states X))
   all_planted = rw (← π.growing.count) π.growing
 

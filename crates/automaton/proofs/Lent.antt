@@ -20,8 +20,26 @@ use Rattle.tree.specs.declared.layout.Form.TheVariants.{Wide, Narrow}
 use Rattle.tree.specs.Forms.{width_in, table_in}
 use Rattle.automaton.specs.Building.{Accepted, Buildable, Builds}
 use Rattle.automaton.specs.Lending.{too_short, judged, wrote, written}
-use Rattle.automaton.specs.declared.lending.Judged.TheVariants as judge
-use Rattle.automaton.specs.declared.lending.Wrote.TheVariants as write
+use Rattle.std.specs.Prelude.{Result, Ok, Err}
+use Rattle.letters.specs.declared.refusal.Reason.{Reason}
+use Rattle.letters.specs.declared.refusal.Reason.TheVariants.{ShortTable, OtherTable}
+use Rattle.automaton.specs.declared.building.Built.{Built}
+
+-- what a test of a table, and what a call that writes one may come to
+abbrev short : Result Unit Reason
+short = Err ShortTable
+
+abbrev other : Result Unit Reason
+other = Err OtherTable
+
+abbrev right : Result Unit Reason
+right = Ok tt
+
+abbrev too_few : Result Built Reason
+too_few = Err ShortTable
+
+abbrev rows : ℕ → ℕ → Result Built Reason
+rows n r = Ok (record { states = n; longest = r })
 
 form_length : (form : Form) (X : Words) → length (table_in form X) ≡ width_in form * length (states X)
 form_length Wide X = table-length X
@@ -58,48 +76,48 @@ module _ {form : Form} {X : Words} {t t' : List ℕ} {n r : ℕ} (β : Builds fo
       is_long : end ≤ length lent → too_short (table_in form X) lent ≡ false
       is_long l = le-ltb (length lent) (length (table_in form X)) (omega arith)
 
-      pub judged_short : length lent < end → judge.Short ≡ judged (table_in form X) lent
+      pub judged_short : length lent < end → short ≡ judged (table_in form X) lent
       judged_short l = rw (is_short l)
 
       -- by the comparison with the rows made
       compared : end ≤ length lent → (q : Bool) → q ≡ same (take end lent) (take end t')
-          → judged (table_in form X) lent ≡ (if q then judge.Right else judge.Other)
+          → judged (table_in form X) lent ≡ (if q then right else other)
       compared l q f =
-          ap (λ (s : Bool). if s then judge.Short else if same (take (length (table_in form X)) lent) (table_in form X) then judge.Right else judge.Other) (is_long l)
-          ∙ ap (λ (k : ℕ). if same (take k lent) (table_in form X) then judge.Right else judge.Other) (sym e)
-          ∙ ap (λ (rows : List ℕ). if same (take end lent) rows then judge.Right else judge.Other) (sym made)
-          ∙ ap (λ (s : Bool). if s then judge.Right else judge.Other) (sym f)
+          ap (λ (s : Bool). if s then short else if same (take (length (table_in form X)) lent) (table_in form X) then right else other) (is_long l)
+          ∙ ap (λ (k : ℕ). if same (take k lent) (table_in form X) then right else other) (sym e)
+          ∙ ap (λ (u : List ℕ). if same (take end lent) u then right else other) (sym made)
+          ∙ ap (λ (s : Bool). if s then right else other) (sym f)
 
       pub judged_right : end ≤ length lent → {q : Bool} → q ≡ same (take end lent) (take end t') → q ≡ true
-          → judge.Right ≡ judged (table_in form X) lent
-      judged_right l {q} f z = sym (compared l q f ∙ ap (λ (s : Bool). if s then judge.Right else judge.Other) z)
+          → right ≡ judged (table_in form X) lent
+      judged_right l {q} f z = sym (compared l q f ∙ ap (λ (s : Bool). if s then right else other) z)
 
       pub judged_other : end ≤ length lent → {q : Bool} → q ≡ same (take end lent) (take end t') → q ≡ false
-          → judge.Other ≡ judged (table_in form X) lent
-      judged_other l {q} f z = sym (compared l q f ∙ ap (λ (s : Bool). if s then judge.Right else judge.Other) z)
+          → other ≡ judged (table_in form X) lent
+      judged_other l {q} f z = sym (compared l q f ∙ ap (λ (s : Bool). if s then right else other) z)
 
-      pub wrote_short : length lent < end → (write.Short ≡ wrote X (table_in form X) lent) × (lent ≡ written (table_in form X) lent)
+      pub wrote_short : length lent < end → (too_few ≡ wrote X (table_in form X) lent) × (lent ≡ written (table_in form X) lent)
       wrote_short l = (rw (is_short l), rw (is_short l))
 
       pub wrote_rows : end ≤ length lent → {lent' : List ℕ} → lent' ≡ over (take end t') lent
-          → (write.Rows n r ≡ wrote X (table_in form X) lent) × (lent' ≡ written (table_in form X) lent)
+          → (rows n r ≡ wrote X (table_in form X) lent) × (lent' ≡ written (table_in form X) lent)
       wrote_rows l {lent'} f = (
-        ap (λ (k : ℕ). write.Rows k r) β.count
-            ∙ ap (λ (k : ℕ). write.Rows (length (states X)) k) β.longest
-            ∙ sym (ap (λ (s : Bool). if s then write.Short else write.Rows (length (states X)) (longest_chain X)) (is_long l)),
+        ap (λ (k : ℕ). rows k r) β.count
+            ∙ ap (λ (k : ℕ). rows (length (states X)) k) β.longest
+            ∙ sym (ap (λ (s : Bool). if s then too_few else rows (length (states X)) (longest_chain X)) (is_long l)),
         f
-            ∙ ap (λ (rows : List ℕ). over rows lent) made
+            ∙ ap (λ (u : List ℕ). over u lent) made
             ∙ sym (ap (λ (s : Bool). if s then lent else over (table_in form X) lent) (is_long l)),
       )
 
 -- a lent table with room for any is written in place
 pub wrote_in_place : {form : Form} {X : Words} {lent lent' : List ℕ} {n r : ℕ} → Allowed X → width * most_states ≤ length lent
-    → Builds form X lent lent' n r → (write.Rows n r ≡ wrote X (table_in form X) lent) × (lent' ≡ written (table_in form X) lent)
+    → Builds form X lent lent' n r → (rows n r ≡ wrote X (table_in form X) lent) × (lent' ≡ written (table_in form X) lent)
 wrote_in_place {form} {X} {lent} {lent'} {n} {r} α room β =
     let long : too_short (table_in form X) lent ≡ false = le-ltb (length lent) (length (table_in form X)) (omega (arith, form_small form α)) in (
-      ap (λ (k : ℕ). write.Rows k r) β.count
-          ∙ ap (λ (k : ℕ). write.Rows (length (states X)) k) β.longest
-          ∙ sym (ap (λ (s : Bool). if s then write.Short else write.Rows (length (states X)) (longest_chain X)) long),
+      ap (λ (k : ℕ). rows k r) β.count
+          ∙ ap (λ (k : ℕ). rows (length (states X)) k) β.longest
+          ∙ sym (ap (λ (s : Bool). if s then too_few else rows (length (states X)) (longest_chain X)) long),
       β.rows ∙ sym (ap (λ (s : Bool). if s then lent else over (table_in form X) lent) long),
     )
 

@@ -1,5 +1,5 @@
 pub mod Known
-pub mod Queue
+pub mod Joining
 pub mod Breadth
 pub mod Planting
 pub mod Finishing

@@ -21,7 +21,8 @@ use Rattle.records.specs.Stored.{place, Holds}
 use Rattle.records.proofs.Accepted.{accepted, word_stands, place_next}
 use Rattle.tree.specs.Layout.{field_at, HasRow, new_row}
 use Rattle.tree.specs.Tree.{Column}
-use Rattle.tree.specs.Index.{index_length}
+use Rattle.tree.specs.declared.index.ChildIndex.{ChildIndex}
+use Rattle.tree.specs.Index.{Vacant}
 use Rattle.tree.specs.Insertion.{Growing, Insertable, Inserted}
 use Rattle.automaton.specs.Building.{Accepted, Planted}
 use Rattle.tree.proofs.Cells.{row_here, row_past}
@@ -45,8 +46,8 @@ root_column : (t : List ℕ) (j : ℕ) (f : Word → ℕ) → field_at t 0 j ≡
 root_column t j f e zero l = e
 root_column t j f e (suc s) l = absurd (omega arith)
 
-pub rooted : (t : List ℕ) {t' index : List ℕ} → HasRow t 0 → t' ≡ sets t (width * 0) (new_row absent absent 0)
-    → ((i : ℕ) → i < index_length → get_or index i 0 ≡ absent) → Growing [] (states []) t' index 1
+pub rooted : (t : List ℕ) {t' : List ℕ} {index : ChildIndex} → HasRow t 0 → t' ≡ sets t (width * 0) (new_row absent absent 0)
+    → Vacant index → Growing [] (states []) t' index 1
 rooted t {t'} {index} room e empty = record {
   tree = record {
     states = allowed_bounded [] no_words;
@@ -63,7 +64,7 @@ rooted t {t'} {index} room e empty = record {
     links = column 6 (λ u. absent) (omega arith) refl;
     chains = column 7 (λ u. 0) (omega arith) refl;
   };
-  indexed = no_owners (allowed_bounded [] no_words) (λ a l. empty (0 + a) (omega arith)) (λ i l m. empty i m);
+  indexed = no_owners (allowed_bounded [] no_words) (empty.blocks 0 (omega arith)) (λ r l. empty.blocks (suc r) (omega arith)) empty.owners;
   count = refl;
 }
   where
@@ -76,13 +77,13 @@ pub past_root : (t : List ℕ) {t' : List ℕ} → HasRow t 0 → t' ≡ sets t 
 past_root t room e i l = ap (λ (l : List ℕ). get_or l i 0) e ∙ row_past t 0 (new_row absent absent 0) refl room i (omega arith)
 
 -- the first k words are in the tree, and the record of the next begins at `at`
-pub record Planting (X : Words) (t₀ t index : List ℕ) (k at n : ℕ) : Type 0 where
+pub record Planting (X : Words) (t₀ t : List ℕ) (index : ChildIndex) (k at n : ℕ) : Type 0 where
   pub low : k ≤ length X
   pub place_is : at ≡ place X k
   pub growing : Growing (take k X) (states (take k X)) t index n
   pub past : (i : ℕ) → width * n ≤ i → get_or t i 0 ≡ get_or t₀ i 0
 
-pub planting : (X : Words) {t index : List ℕ} → Growing [] (states []) t index 1 → Planting X t t index 0 0 1
+pub planting : (X : Words) {t : List ℕ} {index : ChildIndex} → Growing [] (states []) t index 1 → Planting X t t index 0 0 1
 planting X γ = record { low = omega arith; place_is = refl; growing = γ; past = λ i l. refl }
 
 -- the states of the first j words are few
@@ -96,7 +97,7 @@ few_states X d j =
       d.storable.small,
     )
 
-module _ {X : Words} {m b : List ℕ} {words : ℕ} (α : Accepted X m b words) {t₀ t index : List ℕ} {k at n : ℕ}
+module _ {X : Words} {m b : List ℕ} {words : ℕ} (α : Accepted X m b words) {t₀ t : List ℕ} {index : ChildIndex} {k at n : ℕ}
     (φ : Planting X t₀ t index k at n) (more : k < length X) where
   here : Holds m b at (word X k)
   here = subst (λ (p : ℕ). Holds m b p (word X k)) (sym φ.place_is) (word_stands (accepted _ m b α.runs) k more)
@@ -145,7 +146,7 @@ module _ {X : Words} {m b : List ℕ} {words : ℕ} (α : Accepted X m b words) 
       few = omega (arith, ap length next_states, few_states X α.allowed (suc k));
     })
 
-    pub planted_on : {t' index' : List ℕ} {n' : ℕ}
+    pub planted_on : {t' : List ℕ} {index' : ChildIndex} {n' : ℕ}
         → Inserted (take k X) (states (take k X)) (mapped m (take (end - start) (drop start b))) t t' index' n'
         → Planting X t₀ t' index' (k + 1) end n'
     planted_on {t'} {index'} {n'} s = record {
@@ -168,7 +169,7 @@ module _ {X : Words} {m b : List ℕ} {words : ℕ} (α : Accepted X m b words) 
             )
 
 -- all words are in the tree
-pub planted : {X : Words} {m b : List ℕ} {words : ℕ} → Accepted X m b words → {t₀ t₁ t index : List ℕ} {k at n : ℕ}
+pub planted : {X : Words} {m b : List ℕ} {words : ℕ} → Accepted X m b words → {t₀ t₁ t : List ℕ} {index : ChildIndex} {k at n : ℕ}
     → Planting X t₁ t index k at n → words ≤ k → ((i : ℕ) → width ≤ i → get_or t₁ i 0 ≡ get_or t₀ i 0) → Planted X t₀ t index n
 planted {X} α {k = k} φ h before =
     let all : take k X ≡ X = take_all k X (omega (arith, α.count)) in

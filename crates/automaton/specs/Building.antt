@@ -1,6 +1,6 @@
 -- What the functions that make a whole table ask and leave.
-use Rattle.std.specs.Prelude.{◌≡◌, List, ℕ, ◌*◌, ◌≤◌, ◌<◌, length, get_or}
-use Rattle.meaning.specs.Numbers.{most_states, absent}
+use Rattle.std.specs.Prelude.{◌≡◌, List, ℕ, ◌*◌, ◌≤◌, length, get_or}
+use Rattle.meaning.specs.Numbers.{most_states}
 use Rattle.meaning.specs.Words.{Words}
 use Rattle.meaning.specs.Automaton.{states, longest_chain}
 use Rattle.meaning.specs.Table.{width, over}
@@ -9,7 +9,8 @@ use Rattle.records.specs.Run.{ran, dictionary}
 use Rattle.tree.specs.declared.layout.Form.{Form}
 use Rattle.tree.specs.declared.layout.Form.TheVariants.{Wide}
 use Rattle.tree.specs.Forms.{width_in, table_in}
-use Rattle.tree.specs.Index.{index_length}
+use Rattle.tree.specs.declared.index.ChildIndex.{ChildIndex}
+use Rattle.tree.specs.Index.{Vacant}
 use Rattle.tree.specs.Insertion.{Growing}
 
 -- the bytes are a dictionary of the words X, so many of them
@@ -25,12 +26,12 @@ pub record Buildable (form : Form) (X : Words) (m b : List ℕ) (words : ℕ) (t
   pub room : width_in form * most_states ≤ length t
 
 -- .. and an index of no states
-pub record Plantable (X : Words) (m b : List ℕ) (words : ℕ) (t index : List ℕ) : Type 0 where
+pub record Plantable (X : Words) (m b : List ℕ) (words : ℕ) (t : List ℕ) (index : ChildIndex) : Type 0 where
   pub buildable : Buildable Wide X m b words t
-  pub empty : (i : ℕ) → i < index_length → get_or index i 0 ≡ absent
+  pub empty : Vacant index
 
 -- the tree of X stands; past the rows the table is as it was
-pub record Planted (X : Words) (t t' index : List ℕ) (n : ℕ) : Type 0 where
+pub record Planted (X : Words) (t t' : List ℕ) (index : ChildIndex) (n : ℕ) : Type 0 where
   pub growing : Growing X (states X) t' index n
   pub past : (i : ℕ) → width * n ≤ i → get_or t' i 0 ≡ get_or t i 0
 

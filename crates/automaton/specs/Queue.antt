@@ -1,11 +1,12 @@
 -- The queue of states that borders, links and chains are filled in by, and what its functions ask and leave.
 use Rattle.std.specs.Prelude.{◌≡◌, ◌⊎◌, List, ℕ, zero, suc, ◌+◌, ◌-◌, ◌≤◌, ◌<◌, eqb, length, get_or, if◌then◌else◌}
 use Rattle.std.proofs.Math.Option.{some}
-use Rattle.meaning.specs.Numbers.{most_states, absent}
+use Rattle.meaning.specs.Numbers.{absent}
 use Rattle.meaning.specs.Words.{Words, snoc, find, word}
 use Rattle.meaning.specs.Table.{border_field}
 use Rattle.tree.specs.Layout.{field_at}
 use Rattle.tree.specs.Tree.{Tree}
+use Rattle.tree.specs.declared.index.ChildIndex.{ChildIndex}
 use Rattle.tree.specs.Index.{Indexed}
 use Rattle.tree.specs.Filling.{Known, Grown}
 
@@ -22,43 +23,42 @@ unsettled t (suc m) = (if eqb (field_at t (suc m) border_field) absent then 1 el
 abbrev pub depth_in : Words → List ℕ → ℕ → ℕ
 depth_in S q i = length (word S (get_or q i 0))
 
--- a queue of `tail` states: the root and every state that has its border, in rising depth
-pub record Queued (X S : Words) (t index q : List ℕ) (tail : ℕ) : Type 0 where
+-- a queue of states: the root and every state that has its border, in rising depth
+pub record Queued (X S : Words) (t : List ℕ) (index : ChildIndex) (q : List ℕ) : Type 0 where
   pub tree : Tree X S t
   pub indexed : Indexed S index
-  pub long : most_states ≤ length q
   pub root : Known X S t 0
   pub known : (s : ℕ) → s < length S → Settled t s → Known X S t s
-  pub entries : (i : ℕ) → i < tail → get_or q i 0 < length S
-  pub seen : (s : ℕ) → s < length S → (s ≡ 0) ⊎ Settled t s → (i : ℕ) × (i < tail) × (get_or q i 0 ≡ s)
-  pub rising : (i j : ℕ) → i ≤ j → j < tail → depth_in S q i ≤ depth_in S q j
-  pub count : tail + unsettled t (length S - 1) ≡ length S
+  pub entries : (i : ℕ) → i < length q → get_or q i 0 < length S
+  pub seen : (s : ℕ) → s < length S → (s ≡ 0) ⊎ Settled t s → (i : ℕ) × (i < length q) × (get_or q i 0 ≡ s)
+  pub rising : (i j : ℕ) → i ≤ j → j < length q → depth_in S q i ≤ depth_in S q j
+  pub count : length q + unsettled t (length S - 1) ≡ length S
 
 -- p is taken out: what is filled in of the states up to its depth is there, and no state of the queue is more than one letter longer
-pub record Taking (X S : Words) (t index q : List ℕ) (tail p : ℕ) : Type 0 where
-  pub queued : Queued X S t index q tail
+pub record Taking (X S : Words) (t : List ℕ) (index : ChildIndex) (q : List ℕ) (p : ℕ) : Type 0 where
+  pub queued : Queued X S t index q
   pub inside : p < length S
   pub known : (v : ℕ) → v < length S → length (word S v) ≤ length (word S p) → Known X S t v
-  pub limit : (i : ℕ) → i < tail → depth_in S q i ≤ suc (length (word S p))
+  pub limit : (i : ℕ) → i < length q → depth_in S q i ≤ suc (length (word S p))
 
 -- .. and c is a child of p
-pub record Settling (X S : Words) (t index q : List ℕ) (tail p c : ℕ) : Type 0 where
-  pub taking : Taking X S t index q tail p
+pub record Settling (X S : Words) (t : List ℕ) (index : ChildIndex) (q : List ℕ) (p c : ℕ) : Type 0 where
+  pub taking : Taking X S t index q p
   pub letter : ℕ
   pub child : find S (snoc (word S p) letter) ≡ some c
 
 -- more states are filled in, and stand behind the others in the queue
-pub record Longer (X S : Words) (t t' index q q' : List ℕ) (tail r p : ℕ) : Type 0 where
-  pub taking : Taking X S t' index q' r p
+pub record Longer (X S : Words) (t t' : List ℕ) (index : ChildIndex) (q q' : List ℕ) (p : ℕ) : Type 0 where
+  pub taking : Taking X S t' index q' p
   pub grown : Grown X S t t'
   pub kept : (s : ℕ) → Settled t s → Settled t' s
-  pub more : tail ≤ r
-  pub queue : (i : ℕ) → i < tail → get_or q' i 0 ≡ get_or q i 0
+  pub more : length q ≤ length q'
+  pub queue : (i : ℕ) → i < length q → get_or q' i 0 ≡ get_or q i 0
 
-pub record Settles (X S : Words) (t t' index q q' : List ℕ) (tail r p c : ℕ) : Type 0 where
-  pub longer : Longer X S t t' index q q' tail r p
+pub record Settles (X S : Words) (t t' : List ℕ) (index : ChildIndex) (q q' : List ℕ) (p c : ℕ) : Type 0 where
+  pub longer : Longer X S t t' index q q' p
   pub settled : Settled t' c
 
-pub record Taken (X S : Words) (t t' index q q' : List ℕ) (tail r p : ℕ) : Type 0 where
-  pub longer : Longer X S t t' index q q' tail r p
+pub record Taken (X S : Words) (t t' : List ℕ) (index : ChildIndex) (q q' : List ℕ) (p : ℕ) : Type 0 where
+  pub longer : Longer X S t t' index q q' p
   pub children : (x c : ℕ) → find S (snoc (word S p) x) ≡ some c → Settled t' c

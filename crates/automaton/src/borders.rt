@@ -5,26 +5,20 @@ ghost use Rattle.tree.specs.Insertion.{Growing};
 ghost use Rattle.tree.specs.Filling.{Completed};
 ghost use Rattle.automaton.specs.Queue.{Settling, Settles, Taking, Taken};
 
+use crate::queue::Queue;
 use tree::{
-    INDEX_LENGTH, NONE, border, child_border, count_chain, first_child, first_word, letter,
-    next_sibling, set_border, set_chain_length, set_link, wide,
+    ChildIndex, NONE, border, child_border, count_chain, first_child, first_word, letter,
+    next_sibling, set_border, set_chain_length, set_link,
 };
 
-// The border, the link and the chain's length of p's child c, which joins the queue of `tail` states. Tells how many they are then.
+// The border, the link and the chain's length of p's child c, which joins the queue.
 // The border's own row tells the link and the length: no border is climbed and no chain walked for them.
-fn settle(
-    table: &mut [u16],
-    index: &[u16; INDEX_LENGTH],
-    queue: &mut [u16; 2048],
-    tail: usize,
-    p: usize,
-    c: usize,
-) -> usize
-    requires { (X S : Words) × Settling X S table.old index.now queue.old tail p c }
-    ensures { (X S : Words) → Settling X S table.old index.now queue.old tail p c → Settles X S table.old table.new index.now queue.old queue.new tail result p c }
+fn settle(table: &mut [u16], index: &ChildIndex, queue: &mut Queue, p: usize, c: usize)
+    requires { (X S : Words) × Settling X S table.old index.now queue.old p c }
+    ensures { (X S : Words) → Settling X S table.old index.now queue.old p c → Settles X S table.old table.new index.now queue.old queue.new p c }
 {
     if border(table, c) != NONE {
-        return tail;
+        return;
     }
     let b = child_border(table, index, p, letter(table, c));
     let l = first_word(table, b);
@@ -32,43 +26,33 @@ fn settle(
     set_border(table, c, b);
     set_link(table, c, l);
     set_chain_length(table, c, k);
-    queue[tail] = c as u16;
-    tail + 1
+    queue.push(c);
 }
 
 // The same of the children of p, which join the queue.
-fn take_out(
-    table: &mut [u16],
-    index: &[u16; INDEX_LENGTH],
-    queue: &mut [u16; 2048],
-    end: usize,
-    p: usize,
-) -> usize
-    requires { (X S : Words) × Taking X S table.old index.now queue.old end p }
-    ensures { (X S : Words) → Taking X S table.old index.now queue.old end p → Taken X S table.old table.new index.now queue.old queue.new end result p }
+fn take_out(table: &mut [u16], index: &ChildIndex, queue: &mut Queue, p: usize)
+    requires { (X S : Words) × Taking X S table.old index.now queue.old p }
+    ensures { (X S : Words) → Taking X S table.old index.now queue.old p → Taken X S table.old table.new index.now queue.old queue.new p }
 {
-    let mut tail = end;
     let mut c = first_child(table, p);
     while c != NONE {
-        tail = settle(table, index, queue, tail, p, c);
+        settle(table, index, queue, p, c);
         c = next_sibling(table, c);
     }
-    tail
 }
 
 // The same of all states, each once: the queue begins with the root, and depths rise along it. At most 2,048 states are taken out;
 // for each the siblings below its own letter are passed at its border, unless the index has that state's children, and those borders
 // are climbed that a text of its word would climb. A link costs at most two reads, a chain's length two.
-pub fn complete_rows(table: &mut [u16], index: &[u16; INDEX_LENGTH])
+pub fn complete_rows(table: &mut [u16], index: &ChildIndex)
     requires { (X S : Words) × Growing X S table.old index.now (length S) }
     ensures { (X S : Words) → Growing X S table.old index.now (length S) → Completed X S table.old table.new }
 {
-    let mut queue = [0u16; 2048];
+    let mut queue = Queue::of_root();
     let mut head = 0;
-    let mut tail = 1;
-    while head < tail {
-        let p = wide(queue[head]);
-        tail = take_out(table, index, &mut queue, tail, p);
+    while head < queue.len() {
+        let p = queue.get(head);
+        take_out(table, index, &mut queue, p);
         head += 1;
     }
 }

@@ -5,8 +5,7 @@ ghost use Rattle.automaton.specs.Building.{Buildable, Plantable, Planted, Builds
 
 use crate::borders::complete_rows;
 use tree::{
-    Form, INDEX_LENGTH, MOST_NUMBERS, NO_CHILD, NONE, add_row, insert_word, longest_chain,
-    narrow_rows,
+    ChildIndex, Form, MOST_NUMBERS, NONE, add_row, insert_word, longest_chain, narrow_rows,
 };
 
 // How many states the table has, and how long its longest chain is.
@@ -17,25 +16,17 @@ pub struct Built {
 }
 
 // The words are put into the tree, record by record. Tells the number of states.
-fn plant(
-    map: &[u8],
-    dict: &[u8],
-    words: usize,
-    table: &mut [u16],
-    index: &mut [u16; INDEX_LENGTH],
-) -> usize
+fn plant(map: &[u8], dict: &[u8], words: usize, table: &mut [u16], index: &mut ChildIndex) -> usize
     requires { (X : Words) × Plantable X map.now dict.now words table.old index.old }
     ensures { (X : Words) → Plantable X map.now dict.now words table.old index.old → Planted X table.old table.new index.new result }
 {
     add_row(table, 0, NONE, NONE, 0);
     let mut n = 1;
-    let mut k = 0;
     let mut at = 0;
-    while k < words {
+    for k in 0..words {
         let start = at + 3;
         let end = start + letters::word_len(dict, at);
         n = insert_word(map, table, index, n, &dict[start..end], k);
-        k += 1;
         at = end;
     }
     n
@@ -47,7 +38,7 @@ fn build_wide(map: &[u8], dict: &[u8], words: usize, table: &mut [u16]) -> Built
     requires { (X : Words) × Buildable Wide X map.now dict.now words table.old }
     ensures { (X : Words) → Buildable Wide X map.now dict.now words table.old → Builds Wide X table.old table.new result.states result.longest }
 {
-    let mut index = [NO_CHILD; INDEX_LENGTH];
+    let mut index = ChildIndex::new();
     let states = plant(map, dict, words, table, &mut index);
     complete_rows(table, &index);
     let longest = longest_chain(table, states);

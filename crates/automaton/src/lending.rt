@@ -6,69 +6,69 @@ ghost use Rattle.tree.specs.Forms.{table_in};
 ghost use Rattle.automaton.specs.Building.{Accepted};
 ghost use Rattle.automaton.specs.Lending.{judged, wrote, written};
 
-use crate::building::build;
+use crate::building::{Built, build};
 use crate::rows::{copy_numbers, same_numbers};
-use tree::{Form, MOST_NUMBERS, row_width};
+use letters::Reason;
+use tree::{Form, MOST_NUMBERS};
 
-// What a lent table is: shorter than the rows of the states (7), with other rows (8), or right.
-#[derive(Clone, Copy)]
-pub enum Judged {
-    Short,
-    Other,
-    Right,
-}
-
-// What became of a lent table: it is too short (7), or holds the rows of so many states, with the longest chain.
-#[derive(Clone, Copy)]
-pub enum Wrote {
-    Short,
-    Rows { states: usize, longest: usize },
-}
-
-pub fn judge_table(map: &[u8], dict: &[u8], words: usize, form: Form, lent: &[u16]) -> Judged
+// Whether a lent table begins with the right rows: 7 where it is shorter than these, else 8.
+pub fn judge_table(
+    map: &[u8],
+    dict: &[u8],
+    words: usize,
+    form: Form,
+    lent: &[u16],
+) -> Result<(), Reason>
     requires { (X : Words) × Accepted X map.now dict.now words }
     ensures { (X : Words) → Accepted X map.now dict.now words → result ≡ judged (table_in form X) lent.now }
 {
     let mut table = [0u16; MOST_NUMBERS];
     let built = build(map, dict, words, form, &mut table);
-    let end = row_width(form) * built.states;
+    let end = form.width() * built.states;
     if lent.len() < end {
-        return Judged::Short;
+        return Err(Reason::ShortTable);
     }
-    if same_numbers(lent, &table, end) {
-        return Judged::Right;
+    if !same_numbers(lent, &table, end) {
+        return Err(Reason::OtherTable);
     }
-    Judged::Other
+    Ok(())
 }
 
 // Made in a local array, and copied if it fits.
-fn write_copy(map: &[u8], dict: &[u8], words: usize, form: Form, lent: &mut [u16]) -> Wrote
+fn write_copy(
+    map: &[u8],
+    dict: &[u8],
+    words: usize,
+    form: Form,
+    lent: &mut [u16],
+) -> Result<Built, Reason>
     requires { (X : Words) × Accepted X map.now dict.now words }
     ensures { (X : Words) → Accepted X map.now dict.now words → (result ≡ wrote X (table_in form X) lent.old) × (lent.new ≡ written (table_in form X) lent.old) }
 {
     let mut table = [0u16; MOST_NUMBERS];
     let built = build(map, dict, words, form, &mut table);
-    let states = built.states;
-    let longest = built.longest;
-    let end = row_width(form) * states;
+    let end = form.width() * built.states;
     if lent.len() < end {
-        return Wrote::Short;
+        Err(Reason::ShortTable)
+    } else {
+        copy_numbers(lent, &table, end);
+        Ok(built)
     }
-    copy_numbers(lent, &table, end);
-    Wrote::Rows { states, longest }
 }
 
 // Where there is room for any table nothing is refused any more, and it is made in place.
-pub fn write_table(map: &[u8], dict: &[u8], words: usize, form: Form, lent: &mut [u16]) -> Wrote
+pub fn write_table(
+    map: &[u8],
+    dict: &[u8],
+    words: usize,
+    form: Form,
+    lent: &mut [u16],
+) -> Result<Built, Reason>
     requires { (X : Words) × Accepted X map.now dict.now words }
     ensures { (X : Words) → Accepted X map.now dict.now words → (result ≡ wrote X (table_in form X) lent.old) × (lent.new ≡ written (table_in form X) lent.old) }
 {
     if lent.len() < MOST_NUMBERS {
         return write_copy(map, dict, words, form, lent);
     }
-    let built = build(map, dict, words, form, lent);
-    Wrote::Rows {
-        states: built.states,
-        longest: built.longest,
-    }
+    Ok(build(map, dict, words, form, lent))
 }

@@ -4,6 +4,8 @@
 mod borders;
 mod building;
 mod lending;
+mod queue;
 mod rows;
 
-pub use lending::{Judged, Wrote, judge_table, write_table};
+pub use building::Built;
+pub use lending::{judge_table, write_table};

@@ -8,13 +8,7 @@ pub fn same_numbers(lent: &[u16], table: &[u16], end: usize) -> bool
     requires { (end ≤ length lent.now) × (end ≤ length table.now) }
     ensures { result ≡ same (take end lent.now) (take end table.now) }
 {
-    let mut alike = true;
-    let mut i = 0;
-    while i < end {
-        alike = alike & (lent[i] == table[i]);
-        i += 1;
-    }
-    alike
+    lent[..end] == table[..end]
 }
 
 // Writes the first `end` numbers over those of a lent table; numbers past them stay.
@@ -22,9 +16,5 @@ pub fn copy_numbers(lent: &mut [u16], table: &[u16], end: usize)
     requires { (end ≤ length lent.old) × (end ≤ length table.now) }
     ensures { lent.new ≡ over (take end table.now) lent.old }
 {
-    let mut i = 0;
-    while i < end {
-        lent[i] = table[i];
-        i += 1;
-    }
+    lent[..end].copy_from_slice(&table[..end]);
 }

@@ -15,6 +15,7 @@ use Rattle.meaning.specs.Automaton.{states}
 use Rattle.meaning.specs.Readings.{state_at, count_at, up_to, state_column, count_column}
 use Rattle.meaning.proofs.Find.{Tested, pass, fail, test, same_refl, same_true}
 use Rattle.meaning.proofs.Columns.{column_at}
+use Rattle.tree.specs.declared.index.ChildIndex.{ChildIndex}
 use Rattle.tree.specs.Index.{Indexed}
 use Rattle.columns.specs.Columns.{Columns}
 use Rattle.columns.specs.Entries.{Reached, IsEntry}
@@ -94,7 +95,7 @@ module _ {X : Words} {t : Word} {tb ss cs : List ℕ} (ρ : Room X t tb ss cs) w
         }
 
   module _ {s i : ℕ} (φ : Agree X t ss cs s i) where
-    pub agree_reached : {index : List ℕ} → Indexed (states X) index → i < length t → Reached X t tb index cs s i
+    pub agree_reached : {index : ChildIndex} → Indexed (states X) index → i < length t → Reached X t tb index cs s i
     agree_reached h l = record { table = ρ.table; indexed = h; place = l; state = φ.state; counts = φ.counts }
 
     -- the next ones

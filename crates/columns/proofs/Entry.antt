@@ -2,7 +2,7 @@
 use mathlib.Core.Path.{◌≡◌, refl, sym, ap, ap₂, ◌∙◌}
 use mathlib.Core.Option.{some}
 use mathlib.Core.List.{List, [], ◌∷◌, Memᴰ}
-use Prim.Native.Nat.{ℕ, suc, ◌+◌, ◌-◌}
+use Prim.Native.Nat.{ℕ, suc, ◌+◌, ◌-◌, ◌<◌}
 use native.Mathlib.Numerals.{add-one}
 use native.Mathlib.Omega.{arith}
 use lib.ListN.{length, get_or, take, length-map}
@@ -14,6 +14,7 @@ use Rattle.meaning.proofs.Chains.{chain_fits}
 use Rattle.meaning.proofs.Counts.{capped_sum, count_suc}
 use Rattle.meaning.proofs.Columns.{column_at, column_long, state_inside, state_fits, state_chain, state_next}
 use Rattle.letters.specs.Letters.{letter, mapped}
+use Rattle.tree.specs.declared.index.ChildIndex.{ChildIndex}
 use Rattle.tree.specs.Filling.{Bordered}
 use Rattle.tree.proofs.Whole.{table_bordered}
 use Rattle.columns.specs.Entries.{Ending, count_before, Tallied, Reached, IsEntry}
@@ -21,6 +22,9 @@ use Rattle.columns.specs.Entries.{Ending, count_before, Tallied, Reached, IsEntr
 -- a text has as many letters as bytes
 pub mapped_size : (m u : List ℕ) → length (mapped m u) ≡ length u
 mapped_size m u = length-map u (letter m)
+
+pub mapped_place : (m u : List ℕ) {i : ℕ} → i < length u → i < length (mapped m u)
+mapped_place m u l = omega (arith, mapped_size m u)
 
 capped_sum_cong : (f g : ℕ → ℕ) (a : ℕ) (ns : List ℕ) → ((n : ℕ) → Memᴰ n ns → f n ≡ g n) → capped_sum f a ns ≡ capped_sum g a ns
 capped_sum_cong f g a [] h = refl
@@ -37,7 +41,7 @@ count_by_column X t cs i e =
     (λ n m. let (low, high) = chain_fits X t (suc i) m in sym (column_at (count_at X t) (suc i) cs e (suc i - size X n) (omega arith)))
 
 -- a step from the state at position i, and the tally of the state it leads to
-module _ {X : Words} {t : Word} {tb index cs : List ℕ} {s i : ℕ} (ρ : Reached X t tb index cs s i) where
+module _ {X : Words} {t : Word} {tb : List ℕ} {index : ChildIndex} {cs : List ℕ} {s i : ℕ} (ρ : Reached X t tb index cs s i) where
   pub reached_bordered : Bordered X (states X) tb index s
   reached_bordered = table_bordered ρ.table ρ.indexed (rw ρ.state (state_inside X t i))
 

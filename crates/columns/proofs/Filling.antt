@@ -15,6 +15,7 @@ use Rattle.meaning.proofs.Suffixes.{nearest_here}
 use Rattle.meaning.proofs.Chains.{chain_length}
 use Rattle.meaning.proofs.Columns.{state_inside, state_chain, probes_within_r}
 use Rattle.tree.specs.Tree.{IsTable}
+use Rattle.tree.specs.declared.index.ChildIndex.{ChildIndex}
 use Rattle.tree.specs.Index.{Indexed}
 use Rattle.tree.proofs.Walk.{state_small}
 use Rattle.tree.proofs.Whole.{table_whole}
@@ -22,7 +23,7 @@ use Rattle.columns.specs.Columns.{Columns}
 use Rattle.columns.specs.Entries.{Reached, IsEntry}
 use Rattle.columns.specs.Scans.{Room, Scans}
 use Rattle.columns.proofs.Tallying.{state_short}
-use Rattle.columns.proofs.Written.{Written, written_first, written-length, written_column, written_on, written_over}
+use Rattle.columns.proofs.Written.{Written, written_first, written_column, written_on, written_over}
 
 -- every text begins in state 0
 pub state_zero : (X : Words) (t : Word) → state_at X t 0 ≡ 0
@@ -76,13 +77,7 @@ filled_first X t ss cs h k = record {
 
 module _ {X : Words} {t : Word} {tb ss₀ ss cs₀ cs : List ℕ} {c p s i : ℕ}
     (ρ : Room X t tb ss₀ cs₀) (φ : Filled X t ss₀ ss cs₀ cs c p s i) where
-  pub filled_states : length ss ≡ length ss₀
-  filled_states = written-length φ.states (omega (arith, ρ.states, φ.low))
-
-  pub filled_counts : length cs ≡ length cs₀
-  filled_counts = written-length φ.counts (omega (arith, ρ.counts, φ.low))
-
-  pub filled_reached : {index : List ℕ} → Indexed (states X) index → i < length t → Reached X t tb index cs s i
+  pub filled_reached : {index : ChildIndex} → Indexed (states X) index → i < length t → Reached X t tb index cs s i
   filled_reached h l = record {
     table = ρ.table;
     indexed = h;

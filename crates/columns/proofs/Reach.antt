@@ -1,9 +1,8 @@
--- How far a text can be read: the search back to the last reading, the climb at a position, and the search on from there.
+-- How far a text can be read: the climb at a position, and the search on from the last reading.
 use mathlib.Core.Path.{◌≡◌, sym, ap, ◌∙◌}
 use mathlib.Core.Bool.{true, false}
 use mathlib.Core.List.{List}
-use Prim.Native.Nat.{ℕ, zero, suc, ◌+◌, ◌-◌, ◌≤◌, ◌<◌}
-use native.Mathlib.Decide.{dec_lt}
+use Prim.Native.Nat.{ℕ, suc, ◌+◌, ◌-◌, ◌≤◌, ◌<◌}
 use native.Mathlib.Numerals.{add-one}
 use native.Mathlib.Omega.{arith}
 use lib.ListN.{length, get_or}
@@ -21,35 +20,6 @@ use Rattle.tree.proofs.Climb.{root_word, Higher, higher}
 use Rattle.tree.proofs.Whole.{table_whole}
 use Rattle.columns.specs.Columns.{Scanned}
 use Rattle.columns.specs.Reaching.{Counted, LastRead, Standing}
-
--- after position i there is no reading
-pub record Unread (cs : List ℕ) (n i : ℕ) : Type 0 where
-  pub within : i ≤ n
-  pub unread : (j : ℕ) → i < j → j ≤ n → get_or cs j 0 ≡ 0
-
-pub unread_first : (cs : List ℕ) (n : ℕ) → Unread cs n n
-unread_first cs n = record { within = omega arith; unread = λ j l h. absurd (omega arith) }
-
-module _ {cs : List ℕ} {n i : ℕ} (κ : Counted cs n) (φ : Unread cs n i) where
-  pub unread_inside : i < length cs
-  unread_inside = omega (arith, κ.long, φ.within)
-
-  pub unread_last : (get_or cs i 0 ≡ 0 → ⊥) → LastRead cs n i
-  unread_last f = record { within = φ.within; read = omega (arith, f); unread = φ.unread }
-
-  pub unread_positive : get_or cs i 0 ≡ 0 → 1 ≤ i
-  unread_positive e = go i e
-    where
-      go : (k : ℕ) → get_or cs k 0 ≡ 0 → 1 ≤ k
-      go zero q = absurd (omega (arith, κ.first))
-      go (suc k) q = omega arith
-
-  pub unread_on : get_or cs i 0 ≡ 0 → Unread cs n (i - 1)
-  unread_on e = record { within = omega (arith, φ.within); unread = λ j l h. go j h (dec_lt i j) (omega arith) }
-    where
-      go : (j : ℕ) → j ≤ n → Dec (i < j) → i ≤ j → get_or cs j 0 ≡ 0
-      go j h (yes l) k = φ.unread j l h
-      go j h (no l) k = let q : j ≡ i = omega arith in ap (λ (m : ℕ). get_or cs m 0) q ∙ e
 
 -- the climb along the borders of the state at a position
 module _ {X : Words} {t : Word} {tb cs : List ℕ} {s i : ℕ} (σ : Standing X t tb cs s i) where

@@ -22,12 +22,12 @@ use Rattle.columns.specs.Entries.{Ending, count_before, Tallied}
 pub state_short : {X : Words} {tb : List ℕ} {s : ℕ} → IsTable X tb → s < length (states X) → length (word (states X) s) ≤ longest_word
 state_short {X} {s = s} ι l = let σ = (table_whole ι).tree.states in σ.short (word (states X) s) s (σ.trie.once s l)
 
--- the words of the chain before v are counted, and so many are left
-pub record Tallying (X : Words) (cs : List ℕ) (s i c left v : ℕ) : Type 0 where
+-- the words of the chain before v are counted, so many as `done`
+pub record Tallying (X : Words) (cs : List ℕ) (s i c done v : ℕ) : Type 0 where
   pub on : OnChain X (states X) v
   pub within : (n : ℕ) → Memᴰ n (chain X (word (states X) v)) → Memᴰ n (chain X (word (states X) s))
   pub sum : capped_sum (count_before X cs i) c (chain X (word (states X) v)) ≡ capped_sum (count_before X cs i) 0 (chain X (word (states X) s))
-  pub number : left ≡ length (chain X (word (states X) v))
+  pub number : done + length (chain X (word (states X) v)) ≡ length (chain X (word (states X) s))
 
 none_left : (l : List ℕ) → length l ≡ 0 → l ≡ []
 none_left [] e = refl
@@ -44,26 +44,25 @@ module _ {X : Words} {tb cs : List ℕ} {s i : ℕ} (ε : Ending X tb cs s i) wh
   pub tally_words : {words : ℕ} → words ≡ field_at tb s chain_field → words ≡ length (chain X (word (states X) s))
   tally_words e = e ∙ whole.chains s ε.inside
 
-  pub tally_start : {words v : ℕ} → words ≡ field_at tb s chain_field → v ≡ stored (nearest (states X) X (word (states X) s))
-      → Tallying X cs s i 0 words v
-  tally_start w e =
+  pub tally_start : {v : ℕ} → v ≡ stored (nearest (states X) X (word (states X) s)) → Tallying X cs s i 0 0 v
+  tally_start e =
       let b = begins whole.tree (word (states X) s) e in
       record {
         on = b.on;
         within = λ n m. subst (λ (l : List ℕ). Memᴰ n l) b.same m;
         sum = ap (capped_sum (count_before X cs i) 0) b.same;
-        number = tally_words w ∙ sym (ap length b.same);
+        number = omega (arith, ap length b.same);
       }
 
-  module _ {c left v : ℕ} (φ : Tallying X cs s i c left v) where
-    pub tally_end : left ≡ 0 → {words : ℕ} → words ≡ field_at tb s chain_field → Tallied X cs s i c words
-    tally_end e w =
-        let z = none_left (chain X (word (states X) v)) (sym φ.number ∙ e) in
+  module _ {c done v words : ℕ} (φ : Tallying X cs s i c done v) (w : words ≡ field_at tb s chain_field) where
+    pub tally_end : words ≤ done → Tallied X cs s i c words
+    tally_end h =
+        let z = none_left (chain X (word (states X) v)) (omega (arith, φ.number, tally_words w)) in
         record { sum = sym (ap (capped_sum (count_before X cs i) c) z) ∙ φ.sum; number = tally_words w }
 
-    module _ (more : left ≡ 0 → ⊥) where
+    module _ (more : done < words) where
       abbrev here : AtWord X (states X) v
-      here = φ.on.here (λ e. more (φ.number ∙ ap length (chain_end whole.tree e)))
+      here = φ.on.here (λ e. omega (arith, φ.number, tally_words w, ap length (chain_end whole.tree e)))
 
       pub tally_row : HasRow tb v
       tally_row = state_row whole.tree here.inside
@@ -80,7 +79,7 @@ module _ {X : Words} {tb cs : List ℕ} {s i : ℕ} (ε : Ending X tb cs s i) wh
           (omega arith, omega (arith, ends_fits ends, ε.fits))
 
       pub tally_on : {d l r : ℕ} → d ≡ field_at tb v depth_field → l ≡ field_at tb v link_field → r ≡ capped (c + get_or cs (i - d) 0)
-          → Tallying X cs s i r (left - 1) l
+          → Tallying X cs s i r (done + 1) l
       tally_on {l = l} {r} e g q =
           let n = next_word g in
           let k : r ≡ capped (c + count_before X cs i here.number)

@@ -6,6 +6,7 @@ use Rattle.meaning.specs.Automaton.{states, chain}
 use Rattle.meaning.specs.Readings.{state_at, count_at, up_to}
 use Rattle.meaning.proofs.Counts.{capped_sum}
 use Rattle.tree.specs.Tree.{IsTable}
+use Rattle.tree.specs.declared.index.ChildIndex.{ChildIndex}
 use Rattle.tree.specs.Index.{Indexed}
 
 -- r is the letter at place i of the text t
@@ -30,7 +31,7 @@ pub record Tallied (X : Words) (cs : List ℕ) (s i c p : ℕ) : Type 0 where
   pub number : p ≡ length (chain X (word (states X) s))
 
 -- a letter stands at place i of the text, s is the state before it, and the counts up to position i are right
-pub record Reached (X : Words) (t : Word) (tb index cs : List ℕ) (s i : ℕ) : Type 0 where
+pub record Reached (X : Words) (t : Word) (tb : List ℕ) (index : ChildIndex) (cs : List ℕ) (s i : ℕ) : Type 0 where
   pub table : IsTable X tb
   pub indexed : Indexed (states X) index
   pub place : i < length t

@@ -5,16 +5,13 @@ ghost use Rattle.letters.specs.Letters.{mapped};
 ghost use Rattle.columns.specs.Scans.{Room, holds_at, are_columns};
 
 use crate::entries::entry_after;
-use tree::{child_index, wide};
+use tree::ChildIndex;
 
 fn holds_at(states: &[u16], counts: &[u64], i: usize, s: usize, c: u64) -> bool
     requires { (i < length states.now) × (i < length counts.now) }
     ensures { result ≡ holds_at states.now counts.now i s c }
 {
-    if wide(states[i]) != s {
-        return false;
-    }
-    counts[i] == c
+    usize::from(states[i]) == s && counts[i] == c
 }
 
 // Each entry is computed from the lent ones before it, which are right by then: no second pair of columns is made. One turn a letter
@@ -28,14 +25,12 @@ pub fn are_columns(map: &[u8], table: &[u16], text: &[u8], states: &[u16], count
     if !holds_at(states, counts, 0, 0, 1) {
         return false;
     }
-    let index = child_index(table);
+    let index = ChildIndex::of(table);
     let mut s = 0;
-    let mut i = 0;
-    while i < text.len() {
+    for i in 0..text.len() {
         let entry = entry_after(map, table, &index, text, counts, s, i);
-        i += 1;
         s = entry.state;
-        if !holds_at(states, counts, i, s, entry.count) {
+        if !holds_at(states, counts, i + 1, s, entry.count) {
             return false;
         }
     }

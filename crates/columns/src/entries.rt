@@ -1,30 +1,19 @@
 // The entry at a position: the state there, the count, and how many words end there.
 ghost use Rattle.std.specs.Prelude.{◌≡◌, suc, ◌+◌, ◌<◌, length};
 ghost use Rattle.meaning.specs.Words.{Words};
-ghost use Rattle.meaning.specs.Readings.{capped};
 ghost use Rattle.letters.specs.Letters.{mapped};
 ghost use Rattle.columns.specs.Entries.{LetterAt, Ending, Tallied, Reached, IsEntry};
 
-use tree::{INDEX_LENGTH, chain_length, depth, first_word, link, step};
+use tree::{ChildIndex, chain_length, depth, first_word, link, step};
 
 // The greatest count. It stands for every number of readings that is not below it.
-pub const MOST_COUNTED: u64 = 18446744073709551615;
+pub const MOST_COUNTED: u64 = u64::MAX;
 
 fn letter_at(map: &[u8], text: &[u8], i: usize) -> usize
     requires { i < length text.now }
     ensures { LetterAt (mapped map.now text.now) i result }
 {
-    letters::letter(map, text[i]) as usize
-}
-
-fn add_capped(a: u64, b: u64) -> u64
-    ensures { result ≡ capped (a + b) }
-{
-    if a <= MOST_COUNTED - b {
-        a + b
-    } else {
-        MOST_COUNTED
-    }
+    usize::from(letters::letter(map, text[i]))
 }
 
 // The counts before the words that end at a position, added up, and how many words these are.
@@ -43,13 +32,11 @@ fn tally_at(table: &[u16], counts: &[u64], s: usize, i: usize) -> Tally
 {
     let words = chain_length(table, s);
     let mut count: u64 = 0;
-    let mut left = words;
     let mut v = first_word(table, s);
-    while left != 0 {
+    for _ in 0..words {
         let before = counts[i - depth(table, v)];
-        count = add_capped(count, before);
+        count = count.saturating_add(before);
         v = link(table, v);
-        left -= 1;
     }
     Tally {
         count,
@@ -66,10 +53,11 @@ pub struct Entry {
 }
 
 // The entry at position i + 1, from the state s at position i and the counts up to there.
+#[inline]
 pub fn entry_after(
     map: &[u8],
     table: &[u16],
-    index: &[u16; INDEX_LENGTH],
+    index: &ChildIndex,
     text: &[u8],
     counts: &[u64],
     s: usize,

@@ -5,18 +5,19 @@ ghost use Rattle.meaning.specs.Readings.{viable, farthest as farthest_of};
 ghost use Rattle.columns.specs.Columns.{Scanned};
 ghost use Rattle.columns.specs.Reaching.{Counted, LastRead, Standing};
 
-use tree::{border, depth, wide};
+use tree::{border, depth};
 
-// The last position up to n that has a reading. One turn for each position after it.
+// The last position up to n that has a reading; position 0 has one. One turn for each position after it.
 fn last_read(counts: &[u64], n: usize) -> usize
     requires { Counted counts.now n }
     ensures { LastRead counts.now n result }
 {
-    let mut i = n;
-    while counts[i] == 0 {
-        i -= 1;
+    for i in (1..=n).rev() {
+        if counts[i] != 0 {
+            return i;
+        }
     }
-    i
+    0
 }
 
 // Whether the first i letters, where the state is s, can still become a reading: whether one of the states on the climb from s has a
@@ -42,12 +43,10 @@ pub fn farthest(table: &[u16], states: &[u16], counts: &[u64], n: usize) -> usiz
     ensures { (X : Words) (t : Word) → Scanned X t table.now states.now counts.now → n ≡ length t
         → result ≡ farthest_of X t }
 {
-    let mut i = last_read(counts, n);
-    while i < n {
-        if !is_viable(table, counts, wide(states[i + 1]), i + 1) {
+    for i in last_read(counts, n)..n {
+        if !is_viable(table, counts, usize::from(states[i + 1]), i + 1) {
             return i;
         }
-        i += 1;
     }
-    i
+    n
 }

@@ -5,7 +5,7 @@ ghost use Rattle.columns.specs.Scans.{Room, Scans};
 
 use crate::entries::entry_after;
 use crate::reaching::farthest;
-use tree::child_index;
+use tree::ChildIndex;
 
 // What a scan tells: how far the text can be read, the count at its end, and the probes.
 #[derive(Clone, Copy)]
@@ -32,20 +32,18 @@ pub fn scan(
         → Scans X (mapped map.now text.now) states.old states.new
         counts.old counts.new result.farthest result.count result.probes }
 {
-    let index = child_index(table);
+    let index = ChildIndex::of(table);
     states[0] = 0;
     counts[0] = 1;
     let mut count: u64 = 1;
     let mut probes: u32 = 0;
     let mut s = 0;
-    let mut i = 0;
-    while i < text.len() {
+    for i in 0..text.len() {
         let entry = entry_after(map, table, &index, text, counts, s, i);
-        i += 1;
         s = entry.state;
         count = entry.count;
-        states[i] = s as u16;
-        counts[i] = count;
+        states[i + 1] = s as u16;
+        counts[i + 1] = count;
         probes += entry.probes;
     }
     Findings {

@@ -16,7 +16,8 @@ use Rattle.meaning.specs.Plain.{Allowed}
 use Rattle.meaning.proofs.Find.{same_true}
 use Rattle.automaton.specs.Lending.{too_short}
 use Rattle.tree.specs.Tree.{IsTable}
-use Rattle.automaton.specs.declared.lending.Judged.TheVariants as judge
+use Rattle.std.specs.Prelude.{Ok, Err}
+use Rattle.letters.specs.declared.refusal.Reason.TheVariants.{ShortTable, OtherTable}
 use Rattle.columns.specs.Columns.{Columns, Scanned}
 use Rattle.columns.specs.Scans.{Room, are_columns}
 use Rattle.numbering.specs.Numbers.{Exact, Exactly}
@@ -43,12 +44,12 @@ rest : (b : Bool) (m n : ℕ) → (if b then suc m else n) ≡ 0 → n ≡ 0
 rest true m n e = absurd (omega arith)
 rest false m n e = e
 
-rows_same : (b c : Bool) → rows_number (if b then judge.Short else if c then judge.Right else judge.Other) ≡ 0 → c ≡ true
+rows_same : (b c : Bool) → rows_number (if b then Err ShortTable else if c then Ok tt else Err OtherTable) ≡ 0 → c ≡ true
 rows_same true c e = absurd (omega arith)
 rows_same false true e = refl
 rows_same false false e = absurd (omega arith)
 
-rows_fit : (b c : Bool) → rows_number (if b then judge.Short else if c then judge.Right else judge.Other) ≡ 0 → b ≡ false
+rows_fit : (b c : Bool) → rows_number (if b then Err ShortTable else if c then Ok tt else Err OtherTable) ≡ 0 → b ≡ false
 rows_fit true c e = absurd (omega arith)
 rows_fit false c e = refl
 

@@ -1,5 +1,5 @@
 -- The order of refusals: a chain of tests, of which the first that fails decides. 0 is no refusal.
-use Rattle.std.specs.Prelude.{Bool, false, ℕ, zero, suc, eqb, leb, ltb, length, take, if◌then◌else◌}
+use Rattle.std.specs.Prelude.{Bool, false, Result, Ok, Err, ℕ, zero, suc, eqb, leb, ltb, length, take, if◌then◌else◌}
 use Rattle.std.proofs.Math.Option.{Option, none, some}
 use mathlib.Core.List.{List, head?}
 use Rattle.std.proofs.Math.ListN.{get_elem?}
@@ -9,8 +9,8 @@ use Rattle.meaning.specs.Table.{table}
 use Rattle.meaning.specs.Readings.{readings, count_at}
 use Rattle.meaning.specs.Listing.{is_reading, next_reading}
 use Rattle.automaton.specs.Lending.{too_short, judged}
-use Rattle.automaton.specs.declared.lending.Judged.{Judged}
-use Rattle.automaton.specs.declared.lending.Judged.TheVariants as judge
+use Rattle.letters.specs.Refusal.{number_of}
+use Rattle.letters.specs.declared.refusal.Reason.{Reason}
 use Rattle.columns.specs.Scans.{are_columns}
 
 infixr 20 ◌and_then◌
@@ -19,10 +19,9 @@ zero and_then n = n
 suc m and_then n = suc m
 
 -- 7, 8
-abbrev pub rows_number : Judged → ℕ
-rows_number judge.Short = 7
-rows_number judge.Other = 8
-rows_number judge.Right = 0
+abbrev pub rows_number : Result Unit Reason → ℕ
+rows_number (Ok ok) = 0
+rows_number (Err reason) = number_of reason
 
 -- .. of a lent table that should be T
 abbrev pub table_refusal : List ℕ → List ℕ → ℕ

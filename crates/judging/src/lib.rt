@@ -4,5 +4,5 @@
 mod judging;
 mod maps;
 
-pub use judging::{Verdict, judge_count, judge_list, judge_rows, judge_scan};
+pub use judging::{judge_count, judge_list, judge_rows, judge_scan};
 pub use maps::{check_words, is_map};

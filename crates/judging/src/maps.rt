@@ -3,7 +3,7 @@ ghost use Rattle.std.specs.Prelude.{◌≡◌};
 ghost use Rattle.records.specs.Told.{dictionary_told, run_tells};
 ghost use Rattle.judging.specs.Under.{is_map, words_under};
 
-use letters::LETTER_VALUES;
+use letters::{LETTER_VALUES, Reason, Refusal};
 use records::{Dictionary, check_dictionary};
 
 pub fn is_map(map: &[u8]) -> bool
@@ -13,14 +13,11 @@ pub fn is_map(map: &[u8]) -> bool
 }
 
 // The map, then the dictionary.
-pub fn check_words(map: &[u8], dict: &[u8]) -> Dictionary
+pub fn check_words(map: &[u8], dict: &[u8]) -> Result<Dictionary, Refusal>
     ensures { dictionary_told result ≡ run_tells (words_under map.now dict.now) }
 {
     if !is_map(map) {
-        return Dictionary::Refused {
-            number: 18,
-            place: 0,
-        };
+        return Err(Refusal::from(Reason::BadMap));
     }
     check_dictionary(map, dict)
 }

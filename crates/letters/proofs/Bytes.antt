@@ -1,18 +1,20 @@
 -- Letters, and parts of the bytes.
 use mathlib.Core.Path.{◌≡◌, refl, ap, ap₂, ◌∙◌}
-use mathlib.Core.Bool.{false}
+use mathlib.Core.Bool.{true, false}
 use mathlib.Core.List.{List, [], ◌∷◌}
 use Prim.Native.Nat.{ℕ, zero, suc, ◌+◌, ◌-◌, ◌<◌, ◌≤◌}
 use native.Mathlib.Numerals.{add-one}
 use native.Mathlib.Decide.{dec_lt}
 use native.Mathlib.Omega.{arith}
 use lib.ListN.{length, get_or, length-map, length-take, length-drop, get_or-eq_default}
-use lib.Seq.{drop-cons}
 use borrow.Author.Tests.{eq-eqb, ne_eqb}
 use Rattle.meaning.specs.Numbers.{letter_values}
 use Rattle.meaning.specs.Words.{same}
 use Rattle.meaning.specs.Plain.{LettersBelow}
+use lib.Seq.{drop-cons}
+use lib.Dec.{eqb}
 use Rattle.letters.specs.Letters.{letter, mapped, count_from, identity, part}
+use Rattle.letters.proofs.Cases.{picked}
 
 pub part_length : (b : List ℕ) (p n : ℕ) → p + n ≤ length b → length (part b p n) ≡ n
 part_length b p n h = simp (length-take, length-drop) (omega arith)
@@ -29,14 +31,21 @@ pub part_two : (b : List ℕ) (p : ℕ) → p + 2 ≤ length b → part b p 2 �
 part_two b p h =
     part_cons b p 2 (omega arith) (omega arith) ∙ ap (get_or b p 0 ∷◌) (part_cons b (p + 1) 1 (omega arith) (omega arith))
 
-module _ (m b : List ℕ) (p q n : ℕ) (hp : p < length b) (hq : q < length b) (k : 0 < n) where
-  pub same_first : letter m (get_or b p 0) ≡ letter m (get_or b q 0)
-      → same (mapped m (part b p n)) (mapped m (part b q n))
-      ≡ same (mapped m (part b (p + 1) (n - 1))) (mapped m (part b (q + 1) (n - 1)))
-  same_first e = rw (part_cons b p n hp k, part_cons b q n hq k, eq-eqb _ _ e)
+-- words of one length are the same where each letter is, and not where one differs
+pub each_same : (m u v : List ℕ) → length u ≡ length v → ((k : ℕ) → k < length u → letter m (get_or u k 0) ≡ letter m (get_or v k 0))
+    → same (mapped m u) (mapped m v) ≡ true
+each_same m [] [] e h = refl
+each_same m [] (y ∷ v) e h = absurd (omega (arith, e))
+each_same m (x ∷ u) [] e h = absurd (omega (arith, e))
+each_same m (x ∷ u) (y ∷ v) e h = rw (eq-eqb _ _ (h 0 (omega arith))) (each_same m u v (omega (arith, e)) (λ k l. h (suc k) (omega arith)))
 
-  pub other_first : (letter m (get_or b p 0) ≡ letter m (get_or b q 0) → ⊥) → same (mapped m (part b p n)) (mapped m (part b q n)) ≡ false
-  other_first e = rw (part_cons b p n hp k, part_cons b q n hq k, ne_eqb _ _ e)
+pub one_other : (m u v : List ℕ) (k : ℕ) → k < length u → k < length v → (letter m (get_or u k 0) ≡ letter m (get_or v k 0) → ⊥)
+    → same (mapped m u) (mapped m v) ≡ false
+one_other m [] v k h l other = absurd (omega arith)
+one_other m (x ∷ u) [] k h l other = refl
+one_other m (x ∷ u) (y ∷ v) zero h l other = rw (ne_eqb _ _ other) refl
+one_other m (x ∷ u) (y ∷ v) (suc k) h l other =
+    picked (λ t. t ≡ false) (eqb (letter m x) (letter m y)) (λ e. one_other m u v k (omega arith) (omega arith) other) (λ e. refl)
 
 pub mapped_at : (m u : List ℕ) (i : ℕ) → i < length u → get_or (mapped m u) i 0 ≡ letter m (get_or u i 0)
 mapped_at m [] i h = absurd (omega arith)

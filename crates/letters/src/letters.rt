@@ -3,19 +3,13 @@ ghost use Rattle.std.specs.Prelude.{◌≡◌, ◌+◌, ◌≤◌, length};
 ghost use Rattle.meaning.specs.Words.{same};
 ghost use Rattle.letters.specs.Letters.{identity as identity_of, letter as letter_of, mapped, part};
 
-pub fn wide(x: u8) -> usize
-    ensures { result ≡ x }
-{
-    x as usize
-}
-
 // The map that sends each byte to itself.
 pub fn identity() -> [u8; 256]
     ensures { result ≡ identity_of }
 {
-    let mut map = [0u8; 256];
-    for i in 0..256 {
-        map[i] = i as u8;
+    let mut map = [0; 256];
+    for (i, letter) in map.iter_mut().enumerate() {
+        *letter = i as u8;
     }
     map
 }
@@ -24,11 +18,7 @@ pub fn identity() -> [u8; 256]
 pub fn letter(map: &[u8], x: u8) -> u8
     ensures { result ≡ letter_of map.now x }
 {
-    let i = wide(x);
-    if i < map.len() {
-        return map[i];
-    }
-    0
+    map.get(usize::from(x)).copied().unwrap_or(0)
 }
 
 // Whether the n letters from the offsets p and q on are the same.
@@ -37,16 +27,12 @@ pub fn same_letters(map: &[u8], bytes: &[u8], p: usize, q: usize, n: usize) -> b
     ensures { result ≡ same (mapped map.now (part bytes.now p n))
         (mapped map.now (part bytes.now q n)) }
 {
-    let mut i = p;
-    let mut j = q;
-    let mut left = n;
-    while 0 < left {
-        if letter(map, bytes[i]) != letter(map, bytes[j]) {
+    let first = &bytes[p..p + n];
+    let second = &bytes[q..q + n];
+    for (i, x) in first.iter().enumerate() {
+        if letter(map, *x) != letter(map, second[i]) {
             return false;
         }
-        i += 1;
-        j += 1;
-        left -= 1;
     }
     true
 }

@@ -5,7 +5,9 @@
 mod letters;
 mod limits;
 mod record;
+mod refusal;
 
 pub use letters::{identity, letter, same_letters};
 pub use limits::{LETTER_VALUES, LONGEST_BOOK, LONGEST_TEXT, MOST_LETTERS, MOST_WORDS};
-pub use record::{BlockRecord, Record, block_at, record_at, word_len};
+pub use record::{Record, block_at, record_at, word_len};
+pub use refusal::{Reason, Refusal};

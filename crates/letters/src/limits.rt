@@ -1,12 +1,8 @@
 // The marks and limits of document 01.
 
-pub const WORD_MARK: u8 = 87;
+pub const WORD_MARK: [u8; 2] = [87, 68];
 
-pub const WORD_MARK_NEXT: u8 = 68;
-
-pub const BLOCK_MARK: u8 = 84;
-
-pub const BLOCK_MARK_NEXT: u8 = 66;
+pub const BLOCK_MARK: [u8; 2] = [84, 66];
 
 pub const LONGEST_WORD: usize = 64;
 

@@ -1,11 +1,9 @@
 // One record at an offset.
-ghost use Rattle.std.specs.Prelude.{◌≡◌, [], ◌∷◌, ◌+◌, ◌≤◌, length};
+ghost use Rattle.std.specs.Prelude.{◌≡◌, ◌+◌, ◌≤◌, length};
 ghost use Rattle.letters.specs.Record.{marked as marked_of, sized_word, record_at, Measured, sized_block, block_at};
 
-use crate::letters::wide;
-use crate::limits::{
-    BLOCK_MARK, BLOCK_MARK_NEXT, LONGEST_TEXT, LONGEST_WORD, WORD_MARK, WORD_MARK_NEXT,
-};
+use crate::limits::{BLOCK_MARK, LONGEST_TEXT, LONGEST_WORD, WORD_MARK};
+use crate::refusal::Reason;
 
 // What stands where a word is due.
 #[derive(Clone, Copy)]
@@ -16,76 +14,46 @@ pub enum Record {
     Block,
     // A word record with so many letters.
     Word { len: usize },
-    // A record that is refused.
-    Bad { number: u16 },
 }
 
-// What stands where a block is due.
-#[derive(Clone, Copy)]
-pub enum BlockRecord {
-    // The bytes are at their end.
-    End,
-    // A block record whose text has so many letters.
-    Text { len: usize },
-    // A record that is refused.
-    Bad { number: u16 },
-}
-
-// Whether the bytes x and y stand at the offset.
-fn marked(bytes: &[u8], at: usize, x: u8, y: u8) -> bool
-    ensures { result ≡ marked_of (x ∷ y ∷ []) bytes.now at }
+// Whether the mark stands at the offset.
+fn marked(bytes: &[u8], at: usize, mark: [u8; 2]) -> bool
+    ensures { result ≡ marked_of mark bytes.now at }
 {
-    let n = bytes.len();
-    if n < 2 {
-        return false;
-    }
-    if n - 2 < at {
-        return false;
-    }
-    if bytes[at] != x {
-        return false;
-    }
-    if bytes[at + 1] != y {
-        return false;
-    }
-    true
+    at <= bytes.len() && bytes[at..].starts_with(&mark)
 }
 
 // The word record at an offset whose length byte says len.
-fn sized_word(bytes: &[u8], at: usize, len: usize) -> Record
+fn sized_word(bytes: &[u8], at: usize, len: usize) -> Result<Record, Reason>
     requires { at + 3 ≤ length bytes.now }
     ensures { result ≡ sized_word bytes.now at len }
 {
-    if len == 0 {
-        return Record::Bad { number: 2 };
-    }
-    if LONGEST_WORD < len {
-        return Record::Bad { number: 2 };
+    if len == 0 || LONGEST_WORD < len {
+        return Err(Reason::WordLength);
     }
     if bytes.len() - at - 3 < len {
-        return Record::Bad { number: 3 };
+        return Err(Reason::CutWord);
     }
-    Record::Word { len }
+    Ok(Record::Word { len })
 }
 
 // The record at an offset where a word is due.
-pub fn record_at(bytes: &[u8], at: usize) -> Record
+pub fn record_at(bytes: &[u8], at: usize) -> Result<Record, Reason>
     ensures { result ≡ record_at bytes.now at }
 {
-    let n = bytes.len();
-    if n <= at {
-        return Record::End;
+    if bytes.len() <= at {
+        return Ok(Record::End);
     }
-    if marked(bytes, at, BLOCK_MARK, BLOCK_MARK_NEXT) {
-        return Record::Block;
+    if marked(bytes, at, BLOCK_MARK) {
+        return Ok(Record::Block);
     }
-    if !marked(bytes, at, WORD_MARK, WORD_MARK_NEXT) {
-        return Record::Bad { number: 1 };
+    if !marked(bytes, at, WORD_MARK) {
+        return Err(Reason::WordMark);
     }
-    if n - at < 3 {
-        return Record::Bad { number: 3 };
+    if bytes.len() - at < 3 {
+        return Err(Reason::CutWord);
     }
-    sized_word(bytes, at, wide(bytes[at + 2]))
+    sized_word(bytes, at, usize::from(bytes[at + 2]))
 }
 
 // How many letters the word record at an offset has, 0 where there is none.
@@ -93,40 +61,38 @@ pub fn word_len(bytes: &[u8], at: usize) -> usize
     ensures { Measured bytes.now at result }
 {
     match record_at(bytes, at) {
-        Record::Word { len } => len,
-        Record::End => 0,
-        Record::Block => 0,
-        Record::Bad { number: _ } => 0,
+        Ok(Record::Word { len }) => len,
+        _ => 0,
     }
 }
 
-// The block record at an offset whose length bytes say len.
-fn sized_block(bytes: &[u8], at: usize, len: usize) -> BlockRecord
+// The length of the text of the block record at an offset, whose length bytes say len.
+fn sized_block(bytes: &[u8], at: usize, len: usize) -> Result<Option<usize>, Reason>
     requires { at + 4 ≤ length bytes.now }
     ensures { result ≡ sized_block bytes.now at len }
 {
     if LONGEST_TEXT < len {
-        return BlockRecord::Bad { number: 9 };
+        return Err(Reason::LongText);
     }
     if bytes.len() - at - 4 < len {
-        return BlockRecord::Bad { number: 15 };
+        return Err(Reason::BadBlock);
     }
-    BlockRecord::Text { len }
+    Ok(Some(len))
 }
 
-// The record at an offset where a block is due.
-pub fn block_at(bytes: &[u8], at: usize) -> BlockRecord
+// How long the text is of the block record at an offset, none where the bytes are at their end.
+pub fn block_at(bytes: &[u8], at: usize) -> Result<Option<usize>, Reason>
     ensures { result ≡ block_at bytes.now at }
 {
-    let n = bytes.len();
-    if n <= at {
-        return BlockRecord::End;
+    if bytes.len() <= at {
+        return Ok(None);
     }
-    if !marked(bytes, at, BLOCK_MARK, BLOCK_MARK_NEXT) {
-        return BlockRecord::Bad { number: 15 };
+    if !marked(bytes, at, BLOCK_MARK) || bytes.len() - at < 4 {
+        return Err(Reason::BadBlock);
     }
-    if n - at < 4 {
-        return BlockRecord::Bad { number: 15 };
-    }
-    sized_block(bytes, at, wide(bytes[at + 2]) + 256 * wide(bytes[at + 3]))
+    sized_block(
+        bytes,
+        at,
+        usize::from(bytes[at + 2]) + 256 * usize::from(bytes[at + 3]),
+    )
 }

@@ -1,15 +1,15 @@
 -- The words of a buffer read from the last one back.
-use mathlib.Core.Path.{◌≡◌, sym, ap, ◌∙◌, subst}
+use mathlib.Core.Path.{◌≡◌, refl, sym, ap, ◌∙◌, subst}
 use mathlib.Core.Bool.{false}
 use mathlib.Core.Logic.{◌↔◌}
-use mathlib.Core.List.{List, [], ◌∷◌, Memᴰ}
-use Prim.Native.Nat.{ℕ, suc, ◌-◌, ◌≤◌}
+use mathlib.Core.List.{List, [], ◌∷◌, ◌++◌, Memᴰ}
+use Prim.Native.Nat.{ℕ, suc, ◌-◌, ◌≤◌, ◌<◌}
 use native.Mathlib.Decide.{ℕ_discrete}
 use native.Mathlib.Omega.{arith}
 use borrow.Author.Tests.{eq-eqb, ne_eqb}
 use lib.Dec.{eqb}
-use lib.ListN.{length, get_or, take, drop, length-take}
-use lib.Seq.{drop-length, take-suc, drop-cons, get_or-take, take-length, length-take-le}
+use lib.ListN.{length, get_or, take, drop, length-take, length-append}
+use lib.Seq.{drop-length, take-suc, drop-cons, get_or-take, take-take, take_at, get_or_at, take-length, length-take-le}
 use Rattle.meaning.specs.Words.{Word, Words, Reading, snoc, size}
 use Rattle.meaning.specs.Automaton.{chain}
 use Rattle.meaning.specs.Table.{depth_field}
@@ -22,7 +22,7 @@ use Rattle.tree.specs.Layout.{field_at}
 use Rattle.listing.specs.Positions.{IsWord, Placed, Given}
 use Rattle.listing.proofs.Steps.{word_size}
 
-pub take_last : (l : List ℕ) {j n : ℕ} → (j ≡ 0 → ⊥) → j ≤ length l → n ≡ get_or l (j - 1) 0 → take j l ≡ snoc (take (j - 1) l) n
+pub take_last : (l : List ℕ) {j n : ℕ} → 0 < j → j ≤ length l → n ≡ get_or l (j - 1) 0 → take j l ≡ snoc (take (j - 1) l) n
 take_last l {j} f h e =
     let q : j ≡ suc (j - 1) = omega (arith, f) in
     ap (λ (k : ℕ). take k l) q ∙ take-suc l (j - 1) 0 (omega (arith, f)) ∙ ap (snoc (take (j - 1) l)) (sym e)
@@ -31,7 +31,7 @@ take_last l {j} f h e =
 pub drop_all : (l : List ℕ) (k : ℕ) → k ≤ length l → drop k (take k l) ≡ []
 drop_all l k h = ap (λ (i : ℕ). drop i (take k l)) (sym (length-take-le k l h)) ∙ drop-length (take k l)
 
-pub drop_last : (l : List ℕ) (j k : ℕ) {n : ℕ} → (j ≡ 0 → ⊥) → j ≤ k → k ≤ length l → n ≡ get_or l (j - 1) 0
+pub drop_last : (l : List ℕ) (j k : ℕ) {n : ℕ} → 0 < j → j ≤ k → k ≤ length l → n ≡ get_or l (j - 1) 0
     → drop (j - 1) (take k l) ≡ n ∷ drop j (take k l)
 drop_last l j k f low room e =
     let q : suc (j - 1) ≡ j = omega (arith, f) in
@@ -48,7 +48,7 @@ module _ {X : Words} {t : Word} {tb ss : List ℕ} {i n v d : ℕ} (α : Placed 
   place_before = record { stated = α.stated; place = omega (arith, α.place) }
 
 -- a reading by its last entry
-pub by_last : {X : Words} {t : Word} {tb ss : List ℕ} {i : ℕ} (α : Placed X t tb ss i) (l : List ℕ) {j n : ℕ} → (j ≡ 0 → ⊥)
+pub by_last : {X : Words} {t : Word} {tb ss : List ℕ} {i : ℕ} (α : Placed X t tb ss i) (l : List ℕ) {j n : ℕ} → 0 < j
     → j ≤ length l → n ≡ get_or l (j - 1) 0
     → IsReading X (take i t) (take j l) ↔ (Memᴰ n (chain X (take i t)) × IsReading X (take (i - size X n) t) (take (j - 1) l))
 by_last {X} {t} {i = i} α l {j} {n} f h e =
@@ -91,7 +91,7 @@ back_end {X} {t} {l = l} {k} {i} β z = says X t (take k l) i (
 )
 
 module _ {X : Words} {t : Word} {tb ss l : List ℕ} {k i j n : ℕ} (β : Back X t tb ss l k i j) (room : k ≤ length l)
-    (f : j ≡ 0 → ⊥) (e : n ≡ get_or l (j - 1) 0) where
+    (f : 0 < j) (e : n ≡ get_or l (j - 1) 0) where
   inside : j ≤ length l
   inside = omega (arith, β.low)
 
@@ -110,3 +110,31 @@ module _ {X : Words} {t : Word} {tb ss l : List ℕ} {k i j n : ℕ} (β : Back 
           λ r. rw s ((by_last β.at l f inside e).0 (β.same.1 r)).1,
         );
       }
+
+-- the words still to be read: the first of the buffer
+pub record Left (l rest : List ℕ) : Type 0 where
+  pub is : rest ≡ take (length rest) l
+
+pub left_all : (l : List ℕ) {k : ℕ} {rest : List ℕ} → k ≤ length l → rest ≡ take k l → Left l rest × (length rest ≡ k)
+left_all l {k} {rest} h e =
+    let long : length rest ≡ k = ap length e ∙ length-take-le k l h in
+    (record { is = rw long e }, long)
+
+-- the last of them is taken off
+module _ {l rest : List ℕ} (more : List ℕ) (n : ℕ) (λ₁ : Left l rest) (e : rest ≡ more ++ n ∷ []) where
+  pub left_some : length rest ≡ suc (length more)
+  left_some = ap length e ∙ omega (arith, length-append more (n ∷ []))
+
+  pub left_shorter : length rest - 1 ≡ length more
+  left_shorter = omega (arith, left_some)
+
+  whole : more ++ n ∷ [] ≡ take (suc (length more)) l
+  whole = sym e ∙ λ₁.is ∙ ap (λ (k : ℕ). take k l) left_some
+
+  pub left_last : n ≡ get_or l (length rest - 1) 0
+  left_last =
+      rw left_shorter (sym (get_or_at more n [] 0 (length more) refl) ∙ ap (λ (x : List ℕ). get_or x (length more) 0) whole
+      ∙ get_or-take (suc (length more)) l (length more) 0 (omega arith))
+
+  pub left_on : Left l more
+  left_on = record { is = sym (take_at more (n ∷ []) (length more) refl) ∙ ap (take (length more)) whole ∙ take-take (length more) (suc (length more)) l (omega arith) }

@@ -1,10 +1,11 @@
 -- The last word of the first reading, and the part before it.
-use mathlib.Core.Path.{◌≡◌, refl, sym, ap, ◌∙◌, subst}
-use mathlib.Core.Option.{Option}
+use mathlib.Core.Path.{◌≡◌, refl, sym, ap, ◌∙◌}
+use mathlib.Core.Option.{none, none-ne-some}
 use mathlib.Core.List.{List, []}
 use Prim.Native.Nat.{ℕ, zero, suc, ◌-◌, ◌≤◌}
 use native.Mathlib.Omega.{arith}
 use lib.ListN.{length, take}
+use Rattle.std.specs.Prelude.{Some}
 use Rattle.meaning.specs.Words.{Word, Words, snoc, size}
 use Rattle.meaning.specs.Automaton.{chain}
 use Rattle.meaning.specs.Table.{depth_field}
@@ -23,12 +24,14 @@ pub record LastWord (X : Words) (t : Word) (i v : ℕ) : Type 0 where
   pub step : FirstStep X t i number
 
 -- what is picked where there is a reading is the last word of the first
-pub last_is : {X : Words} {t : Word} {tb ss cs : List ℕ} (i : ℕ) {v : ℕ} → Readable X t tb ss cs i → (i ≡ 0 → ⊥)
-    → StateOf X (pick X t i (chain X (take i t))) v → LastWord X t i v
-last_is zero ρ f h = absurd (f refl)
-last_is {X} {t} (suc j) {v} ρ f h =
-    let (n, p) = first_picks X t j ρ.reads in
-    record { number = n; word = subst (λ (o : Option ℕ). StateOf X o v) p h; step = first_step X t j n p }
+pub last_is : {X : Words} {t : Word} (i : ℕ) {v : ℕ} → StateOf X (pick X t i (chain X (take i t))) (Some v) → LastWord X t i v
+last_is {X} zero (n, e, w) = absurd (none-ne-some n e)
+last_is {X} {t} (suc j) (n, e, w) = record { number = n; word = w; step = first_step X t j n e }
+
+-- nothing is picked only where there are no letters
+pub no_last : {X : Words} {t : Word} {tb ss cs : List ℕ} (i : ℕ) → Readable X t tb ss cs i → pick X t i (chain X (take i t)) ≡ none → i ≡ 0
+no_last zero ρ e = refl
+no_last {X} {t} (suc j) ρ e = let (n, p) = first_picks X t j ρ.reads in absurd (none-ne-some n (sym e ∙ p))
 
 -- the part before it has a reading too, and is shorter
 module _ {X : Words} {t : Word} {tb ss cs : List ℕ} {i v : ℕ} (ρ : Readable X t tb ss cs i) (ω : LastWord X t i v) where

@@ -2,7 +2,6 @@ pub mod Steps
 pub mod Search
 pub mod Lasts
 pub mod Writes
-pub mod Moves
 pub mod Backwards
 pub mod Leftmost
 pub mod Told

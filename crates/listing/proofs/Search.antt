@@ -1,13 +1,13 @@
 -- The search for a word in a chain, and what stands behind it there.
 use mathlib.Core.Path.{◌≡◌, refl, sym, ap, ◌∙◌, subst}
 use mathlib.Core.Logic.{⊎_elim}
-use mathlib.Core.Option.{Option, none, some}
+use mathlib.Core.Option.{Option as Maybe, none, some}
 use mathlib.Core.List.Memᴰ
 use mathlib.Core.List.{List, [], ◌∷◌, Memᴰ}
 use Prim.Native.Nat.{ℕ}
 use native.Mathlib.Decide.{ℕ_discrete}
 use borrow.Author.Tests.{eq-eqb, ne_eqb}
-use Rattle.meaning.specs.Numbers.{absent}
+use Rattle.std.specs.Prelude.{Option, None, Some, IsSome}
 use Rattle.meaning.specs.Words.{Word, Words, find, word}
 use Rattle.meaning.specs.Automaton.{states, chain}
 use Rattle.meaning.specs.Table.{word_field, link_field}
@@ -18,7 +18,7 @@ use Rattle.meaning.proofs.Next.{behind_here, behind_past}
 use Rattle.tree.specs.Layout.{field_at}
 use Rattle.tree.specs.Tree.{IsTable}
 use Rattle.listing.specs.Positions.{words_at, sought, IsWord, StateOf, Walking}
-use Rattle.listing.proofs.Steps.{word_some, word_number, word_next}
+use Rattle.listing.proofs.Steps.{word_number, word_next}
 
 -- the two cases of `sought`
 sought_here : (n : ℕ) (c : List ℕ) → sought n (n ∷ c) ≡ some n
@@ -42,7 +42,7 @@ module _ {X : Words} {tb : List ℕ} {v m n k : ℕ} (ω : Walking X tb v) (w : 
       ∙ sought_past n m (words_at X l) (λ q. f (word_number ω.table w e ∙ q))
 
 -- what an answer of `sought n c` says
-abbrev Seeks : ℕ → List ℕ → Option ℕ → Type 0
+abbrev Seeks : ℕ → List ℕ → Maybe ℕ → Type 0
 Seeks n c none = Memᴰ n c → ⊥
 Seeks n c (some m) = (m ≡ n) × Memᴰ n c
 
@@ -50,34 +50,26 @@ sought_seeks : (n : ℕ) (c : List ℕ) → Seeks n c (sought n c)
 sought_seeks n [] = Memᴰ.not-nil
 sought_seeks n (m ∷ c) = go (ℕ_discrete m n) (sought n c) refl (sought_seeks n c)
   where
-    go : Dec (m ≡ n) → (o : Option ℕ) → sought n c ≡ o → Seeks n c o → Seeks n (m ∷ c) (sought n (m ∷ c))
+    go : Dec (m ≡ n) → (o : Maybe ℕ) → sought n c ≡ o → Seeks n c o → Seeks n (m ∷ c) (sought n (m ∷ c))
     go (yes e) o q s = rw (eq-eqb m n e) (e, Memᴰ.head (sym e))
     go (no d) none q s = rw (ne_eqb m n d, q) (λ k. ⊎_elim (λ e. d (sym e)) s (Memᴰ.cases_cons k))
     go (no d) (some x) q s = rw (ne_eqb m n d, q) (s.0, Memᴰ.tail s.1)
 
-module _ {X : Words} {v n : ℕ} (c : List ℕ) (f : StateOf X (sought n c) v) where
-  -- v is none: the word is not there
-  pub sought_none : {tb : List ℕ} → IsTable X tb → v ≡ absent → Memᴰ n c → ⊥
-  sought_none ι e = go (sought n c) (sought_seeks n c) f
-    where
-      go : (o : Option ℕ) → Seeks n c o → StateOf X o v → Memᴰ n c → ⊥
-      go none s g = s
-      go (some m) s g = absurd (word_some ι g e)
+pub sought_none : {n : ℕ} (c : List ℕ) → sought n c ≡ none → Memᴰ n c → ⊥
+sought_none {n} c e = subst (Seeks n c) e (sought_seeks n c)
 
-  -- .. or its state
-  pub sought_some : (v ≡ absent → ⊥) → Memᴰ n c × IsWord X v n
-  sought_some d = go (sought n c) (sought_seeks n c) f
-    where
-      go : (o : Option ℕ) → Seeks n c o → StateOf X o v → Memᴰ n c × IsWord X v n
-      go none s g = absurd (d g)
-      go (some m) s g = (s.1, subst (IsWord X v) s.0 g)
+pub sought_some : {X : Words} {v : ℕ} (n : ℕ) (c : List ℕ) → StateOf X (sought n c) (Some v) → Memᴰ n c × IsWord X v n
+sought_some {X} {v} n c (m, e, w) =
+    let s : (m ≡ n) × Memᴰ n c = subst (Seeks n c) e (sought_seeks n c) in
+    (s.1, subst (IsWord X v) s.0 w)
 
-  pub sought_there : Memᴰ n c → IsWord X v n
-  sought_there k = go (sought n c) (sought_seeks n c) f
-    where
-      go : (o : Option ℕ) → Seeks n c o → StateOf X o v → IsWord X v n
-      go none s g = absurd (s k)
-      go (some m) s g = subst (IsWord X v) s.0 g
+pub sought_word : {X : Words} {v : ℕ} (n : ℕ) (c : List ℕ) {r : Option ℕ} → StateOf X (sought n c) r → r ≡ Some v → IsWord X v n
+sought_word {X} n c f e = (sought_some n c (subst (StateOf X (sought n c)) e f)).1
+
+-- what is there is found
+pub sought_there : (X : Words) {n : ℕ} (c : List ℕ) (r : Option ℕ) → StateOf X (sought n c) r → Memᴰ n c → IsSome r
+sought_there X c None e k = absurd (sought_none c e k)
+sought_there X c (Some v) e k = refl
 
 -- what stands behind a word stands in the list
 pub behind_mem : (n : ℕ) (c : List ℕ) {m : ℕ} → Memᴰ m (behind n c) → Memᴰ m c

@@ -19,7 +19,7 @@ use Rattle.meaning.proofs.First.{pick_here, pick_past}
 use Rattle.tree.specs.Layout.{field_at, HasRow}
 use Rattle.tree.specs.Tree.{Tree, IsTable}
 use Rattle.tree.specs.Filling.{LinkedAt}
-use Rattle.tree.proofs.Walk.{state_row, state_small}
+use Rattle.tree.proofs.Walk.{state_row}
 use Rattle.tree.proofs.Chain.{AtWord, Begins, Next, begins, next, chain_end, at_number, at_depth}
 use Rattle.tree.proofs.Whole.{table_whole, table_linked}
 use Rattle.listing.specs.Positions.{words_at, IsWord, Walking, Placed, Ending, ScannedAt}
@@ -38,9 +38,6 @@ module _ {X : Words} {tb : List ℕ} (ι : IsTable X tb) where
   module _ {v n : ℕ} (w : IsWord X v n) where
     pub word_row : HasRow tb v
     word_row = state_row tree w.inside
-
-    pub word_some : v ≡ absent → ⊥
-    word_some e = omega (arith, state_small tree w.inside)
 
     pub word_size : {d : ℕ} → d ≡ field_at tb v depth_field → d ≡ size X n
     word_size e = e ∙ at_depth tree (at_word w)

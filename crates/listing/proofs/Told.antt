@@ -1,15 +1,17 @@
 -- What first and next answer, and what they leave in the buffer.
 use mathlib.Core.Path.{◌≡◌, refl, sym, ap, ◌∙◌}
 use mathlib.Core.Bool.{true, false}
-use mathlib.Core.Option.{Option, none, some}
+use mathlib.Core.Option.{Option as Maybe, none, some}
 use mathlib.Core.List.{List, [], ◌∷◌, ◌++◌, append_assoc, head?}
 use Prim.Native.Nat.{ℕ, suc, ◌+◌, ◌-◌, ◌≤◌, ◌<◌}
 use native.Mathlib.Omega.{arith}
 use borrow.Author.Tests.{le-leb, lt-leb}
 use lib.Dec.{leb}
 use lib.ListN.{length, get_or, take, drop, length-append, length-take, length-drop}
-use lib.Seq.{drop_at, length-take-le, sets, sets-eq}
-use Rattle.meaning.specs.Numbers.{absent}
+use lib.Seq.{drop_at, length-take-le}
+use Rattle.std.proofs.lemmas.List.{drop-take}
+use Rattle.std.specs.List.{copy_within}
+use Rattle.std.specs.Prelude.{None, Some, Ok, Err}
 use Rattle.meaning.specs.Words.{Word, Words, Reading, snoc, size}
 use Rattle.meaning.specs.Table.{over, depth_field, word_field}
 use Rattle.meaning.specs.Readings.{readings, is_nonempty, count_at}
@@ -20,24 +22,24 @@ use Rattle.meaning.proofs.Counts.{count_readable, count_unreadable}
 use Rattle.meaning.proofs.First.{first_short, first_is-head}
 use Rattle.tree.specs.Layout.{field_at, HasRow}
 use Rattle.tree.specs.Tree.{IsTable}
-use Rattle.listing.specs.declared.listed.Listed.TheVariants.{Nothing, Short, Words as Told}
+use Rattle.letters.specs.declared.refusal.Reason.TheVariants.{ShortBuffer}
 use Rattle.listing.specs.Positions.{Readable, Whole, Giving}
-use Rattle.listing.specs.Writing.{Written, moved}
-use Rattle.listing.specs.Changes.{IsChange, Changes}
+use Rattle.listing.specs.Writing.{Written}
+use Rattle.listing.specs.Changes.{IsChange}
 use Rattle.listing.specs.Answers.{Answers}
-use Rattle.listing.proofs.Steps.{word_row, word_some, word_size, word_number}
+use Rattle.listing.proofs.Steps.{word_row, word_size, word_number}
 
 -- the three answers
-pub answers_nothing : {o : Option Reading} (b : List ℕ) → o ≡ none → Answers o b b Nothing
+pub answers_nothing : {o : Maybe Reading} (b : List ℕ) → o ≡ none → Answers o b b (Ok None)
 answers_nothing b e = rw e (record { answers = refl; buffer = refl })
 
-pub answers_short : {o : Option Reading} (ws : Reading) (b : List ℕ) → o ≡ some ws → length b < length ws → Answers o b b Short
+pub answers_short : {o : Maybe Reading} (ws : Reading) (b : List ℕ) → o ≡ some ws → length b < length ws → Answers o b b (Err ShortBuffer)
 answers_short ws b e l =
     let f : leb (length ws) (length b) ≡ false = lt-leb _ _ l in
     rw e (record { answers = rw f; buffer = rw f })
 
-pub answers_words : {o : Option Reading} (ws : Reading) (b : List ℕ) {a : List ℕ} {n : ℕ} → o ≡ some ws → length ws ≤ length b
-    → Written ws b a n → Answers o b a (Told n)
+pub answers_words : {o : Maybe Reading} (ws : Reading) (b : List ℕ) {a : List ℕ} {n : ℕ} → o ≡ some ws → length ws ≤ length b
+    → Written ws b a n → Answers o b a (Ok (Some n))
 answers_words ws b e l w =
     let f : leb (length ws) (length b) ≡ true = le-leb _ _ l in
     rw (e, w.count, w.list) (record { answers = rw f; buffer = rw f })
@@ -69,34 +71,24 @@ module _ {X : Words} {t : Word} {tb ss cs : List ℕ} {m : ℕ} (ω : Whole X t 
     whole_first =
         first_is-head X t (rw ω.long at whole_readable.reads) ∙ ap (λ (i : ℕ). some (first_reading X t i)) (sym ω.long)
 
--- the change that was found, by its state
-pub no_change : {X : Words} {tb : List ℕ} (t : Word) (ns : Reading) {state : ℕ} (end kept : ℕ) → IsTable X tb → (o : Option Reading)
-    → Changes X t ns state end kept o → state ≡ absent → o ≡ none
-no_change t ns end kept ι none h e = refl
-no_change t ns end kept ι (some ms) h e = absurd (word_some ι h.word e)
-
-pub some_change : {X : Words} (t : Word) (ns : Reading) (state end kept : ℕ) (o : Option Reading) → Changes X t ns state end kept o
-    → (state ≡ absent → ⊥) → (ms : Reading) × IsChange X t ns state end kept ms × (o ≡ some ms)
-some_change t ns state end kept none h f = absurd (f h)
-some_change t ns state end kept (some ms) h f = (ms, h, refl)
-
 -- the words kept are moved behind ws, and then ws is written before them
 module _ (l : List ℕ) (kept k : ℕ) (low : kept ≤ k) (high : k ≤ length l) where
   kept-length : length (drop kept (take k l)) ≡ k - kept
   kept-length = omega (arith, length-drop kept (take k l), length-take k l)
 
   moved_over : (ws : Reading) {n : ℕ} → n ≡ length ws → n + (k - kept) ≤ length l
-      → over ws (moved l kept n (k - kept)) ≡ over (ws ++ drop kept (take k l)) l
+      → over ws (copy_within l kept k n) ≡ over (ws ++ drop kept (take k l)) l
   moved_over ws {n} e room =
       let run = drop kept (take k l) in
-      let whole : kept + (k - kept) ≡ k = omega arith in
-      let long : n + length run ≡ length (ws ++ run) = omega (arith, length-append ws run) in
-      let back : drop (length ws) (sets l n run) ≡ run ++ drop (n + length run) l
-      = ap (drop (length ws)) (sets-eq run l n (omega (arith, kept-length)) ∙ append_assoc (take n l) run (drop (n + length run) l))
-      ∙ drop_at (take n l) (run ++ drop (n + length run) l) (length ws) (length-take-le n l (omega arith) ∙ e) in
-      ap (λ (j : ℕ). over ws (sets l n (drop kept (take j l)))) whole
-      ∙ ap (λ (r : List ℕ). ws ++ r) back
-      ∙ sym (append_assoc ws run (drop (n + length run) l))
+      let same : take (k - kept) (drop kept l) ≡ run
+      = sym (drop-take kept (k - kept) l) ∙ ap (λ (j : ℕ). drop kept (take j l)) (omega arith) in
+      let long : n + (k - kept) ≡ length (ws ++ run) = omega (arith, length-append ws run, kept-length) in
+      let back : drop (length ws) (copy_within l kept k n) ≡ run ++ drop (n + (k - kept)) l
+      = ap (λ (r : List ℕ). drop (length ws) (take n l ++ r ++ drop (n + (k - kept)) l)) same
+      ∙ ap (drop (length ws)) (append_assoc (take n l) run (drop (n + (k - kept)) l))
+      ∙ drop_at (take n l) (run ++ drop (n + (k - kept)) l) (length ws) (length-take-le n l (omega arith) ∙ e) in
+      ap (λ (r : List ℕ). ws ++ r) back
+      ∙ sym (append_assoc ws run (drop (n + (k - kept)) l))
       ∙ ap (λ (j : ℕ). ws ++ run ++ drop j l) long
 
 -- the change made
@@ -149,7 +141,7 @@ module _ {X : Words} {t : Word} {tb ss cs l : List ℕ} {m k state end kept : �
       )
 
       pub change_written : {w : ℕ} {b a : List ℕ} → n + 1 + (k - kept) ≤ length l → w ≡ field_at tb state word_field
-          → b ≡ moved l kept (n + 1) (k - kept) → a ≡ over (snoc (first_reading X t (end - d)) w) b → Written ms l a (n + 1 + (k - kept))
+          → b ≡ copy_within l kept k (n + 1) → a ≡ over (snoc (first_reading X t (end - d)) w) b → Written ms l a (n + 1 + (k - kept))
       change_written {w} {b} room f p h = record {
         count = sym change_length;
         list =

@@ -1,20 +1,20 @@
 -- What first and next answer, and what the buffer then holds, by the reading that is to be written.
-use Rattle.std.specs.Prelude.{◌≡◌, List, ℕ, leb, length, if◌then◌else◌}
-use Rattle.std.proofs.Math.Option.{Option, none, some}
+use Rattle.std.specs.Prelude.{◌≡◌, Option, None, Some, Result, Ok, Err, List, ℕ, leb, length, if◌then◌else◌}
+use Rattle.std.proofs.Math.Option.{Option as Maybe, none, some}
 use Rattle.meaning.specs.Words.{Reading}
 use Rattle.meaning.specs.Table.{over}
-use Rattle.listing.specs.declared.listed.Listed.{Listed}
-use Rattle.listing.specs.declared.listed.Listed.TheVariants.{Nothing, Short, Words}
+use Rattle.letters.specs.declared.refusal.Reason.{Reason}
+use Rattle.letters.specs.declared.refusal.Reason.TheVariants.{ShortBuffer}
 
-abbrev pub answer : Option Reading → List ℕ → Listed
-answer none buffer = Nothing
-answer (some ws) buffer = if leb (length ws) (length buffer) then Words (length ws) else Short
+abbrev pub answer : Maybe Reading → List ℕ → Result (Option ℕ) Reason
+answer none buffer = Ok None
+answer (some ws) buffer = if leb (length ws) (length buffer) then Ok (Some (length ws)) else Err ShortBuffer
 
 -- the buffer after the call
-abbrev pub left : Option Reading → List ℕ → List ℕ
+abbrev pub left : Maybe Reading → List ℕ → List ℕ
 left none buffer = buffer
 left (some ws) buffer = if leb (length ws) (length buffer) then over ws buffer else buffer
 
-pub record Answers (o : Option Reading) (before after : List ℕ) (r : Listed) : Type 0 where
+pub record Answers (o : Maybe Reading) (before after : List ℕ) (r : Result (Option ℕ) Reason) : Type 0 where
   pub answers : r ≡ answer o before
   pub buffer : after ≡ left o before

@@ -1,10 +1,10 @@
 -- The change that makes the next reading.
-use Rattle.std.specs.Prelude.{◌≡◌, true, ◌++◌, ℕ, ◌-◌, ◌≤◌, length, drop}
-use Rattle.std.proofs.Math.Option.{Option, none, some}
-use Rattle.meaning.specs.Numbers.{absent}
+use Rattle.std.specs.Prelude.{◌≡◌, true, Option, None, Some, ◌++◌, ℕ, ◌-◌, ◌≤◌, length, drop}
+use Rattle.std.proofs.Math.Option.{Option as Maybe, none, some}
 use Rattle.meaning.specs.Words.{Word, Words, Reading, snoc, size}
 use Rattle.meaning.specs.Readings.{readable}
 use Rattle.meaning.specs.Listing.{first_reading}
+use Rattle.listing.specs.declared.changing.Change.{Change}
 use Rattle.listing.specs.Positions.{IsWord}
 
 -- ms is the first reading up to the word at `state`, which ends at `end`, then that word, and the words of ns from `kept` on
@@ -18,6 +18,6 @@ pub record IsChange (X : Words) (t : Word) (ns : Reading) (state end kept : ℕ)
   pub is : ms ≡ snoc (first_reading X t (end - size X number)) number ++ drop kept ns
 
 -- the change that makes of ns the reading to come, if there is one
-abbrev pub Changes : Words → Word → Reading → ℕ → ℕ → ℕ → Option Reading → Type 0
-Changes X t ns state end kept none = state ≡ absent
-Changes X t ns state end kept (some ms) = IsChange X t ns state end kept ms
+abbrev pub Changes : Words → Word → Reading → Option Change → Maybe Reading → Type 0
+Changes X t ns None o = o ≡ none
+Changes X t ns (Some c) o = (ms : Reading) × (o ≡ some ms) × IsChange X t ns c.state c.end c.kept ms

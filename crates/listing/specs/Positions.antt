@@ -1,8 +1,7 @@
 -- A text of which table and columns are right, its positions, and the words that end there.
-use Rattle.std.specs.Prelude.{◌≡◌, true, ℕ, suc, ◌≤◌, ◌<◌, eqb, length, take, if◌then◌else◌}
-use Rattle.std.proofs.Math.Option.{Option, none, some}
+use Rattle.std.specs.Prelude.{◌≡◌, true, Option, None, Some, ℕ, suc, ◌≤◌, ◌<◌, eqb, length, take, if◌then◌else◌}
+use Rattle.std.proofs.Math.Option.{Option as Maybe, none, some}
 use mathlib.Core.List.{List, [], ◌∷◌, Memᴰ}
-use Rattle.meaning.specs.Numbers.{absent}
 use Rattle.meaning.specs.Words.{Word, Words, find, word}
 use Rattle.meaning.specs.Automaton.{states, chain}
 use Rattle.meaning.specs.Readings.{readable, state_column, count_column}
@@ -16,7 +15,7 @@ abbrev pub words_at : Words → ℕ → List ℕ
 words_at X v = chain X (word (states X) v)
 
 -- n, if it is one of the words c
-abbrev pub sought : ℕ → List ℕ → Option ℕ
+abbrev pub sought : ℕ → List ℕ → Maybe ℕ
 sought n [] = none
 sought n (m ∷ c) = if eqb m n then some m else sought n c
 
@@ -25,10 +24,10 @@ pub record IsWord (X : Words) (v n : ℕ) : Type 0 where
   pub inside : v < length (states X)
   pub is : find X (word (states X) v) ≡ some n
 
--- v is the state of the word, or none where there is no word
-abbrev pub StateOf : Words → Option ℕ → ℕ → Type 0
-StateOf X none v = v ≡ absent
-StateOf X (some n) v = IsWord X v n
+-- the state of the word, if there is one
+abbrev pub StateOf : Words → Maybe ℕ → Option ℕ → Type 0
+StateOf X o None = o ≡ none
+StateOf X o (Some v) = (n : ℕ) × (o ≡ some n) × IsWord X v n
 
 -- v is where a walk along a chain stands
 pub record Walking (X : Words) (tb : List ℕ) (v : ℕ) : Type 0 where

@@ -1,6 +1,5 @@
--- What is written to a buffer, and what is moved in it.
-use Rattle.std.specs.Prelude.{◌≡◌, List, ℕ, ◌+◌, ◌≤◌, ◌<◌, length, take, drop}
-use Rattle.std.proofs.lemmas.List.Edits.{sets}
+-- What is written to a buffer.
+use Rattle.std.specs.Prelude.{◌≡◌, List, ℕ, ◌≤◌, ◌<◌, length}
 use Rattle.meaning.specs.Words.{Word, Words, Reading}
 use Rattle.meaning.specs.Table.{over}
 use Rattle.meaning.specs.Listing.{first_reading}
@@ -20,12 +19,3 @@ pub record MoreFits (X : Words) (t : Word) (tb ss cs : List ℕ) (i : ℕ) (buff
 pub record Written (ws : Reading) (before after : List ℕ) (r : ℕ) : Type 0 where
   pub count : r ≡ length ws
   pub list : after ≡ over ws before
-
--- the n entries from `from` on lie inside, and so does the place for them
-pub record Shift (l : List ℕ) (from to n : ℕ) : Type 0 where
-  pub source : from + n ≤ length l
-  pub target : to + n ≤ length l
-
--- l with the n entries from `from` on copied to `to`
-abbrev pub moved : List ℕ → ℕ → ℕ → ℕ → List ℕ
-moved l from to n = sets l to (drop from (take (from + n) l))

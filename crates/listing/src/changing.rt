@@ -6,10 +6,9 @@ ghost use Rattle.listing.specs.Positions.{Giving};
 ghost use Rattle.listing.specs.Changes.{Changes};
 
 use crate::ending::{pick, word_ending};
-use tree::{NONE, depth, link, wide};
+use tree::{depth, link};
 
-// The word at `state` is put in the place of one that also ends at position `end`; the words from entry `kept` on stay. No change
-// where the state is none.
+// The word at `state` is put in the place of one that also ends at position `end`; the words from entry `kept` on stay.
 #[derive(Clone, Copy)]
 pub struct Change {
     pub state: usize,
@@ -26,25 +25,22 @@ pub fn change_of(
     m: usize,
     reading: &[u16],
     k: usize,
-) -> Change
+) -> Option<Change>
     requires { (X : Words) × (t : Word) × Giving X t table.now states.now counts.now m reading.now k }
-    ensures { (X : Words) (t : Word) → Giving X t table.now states.now counts.now m reading.now k → Changes X t (take k reading.now) result.state result.end result.kept (next_reading X t (take k reading.now)) }
+    ensures { (X : Words) (t : Word) → Giving X t table.now states.now counts.now m reading.now k → Changes X t (take k reading.now) result (next_reading X t (take k reading.now)) }
 {
-    let mut state = NONE;
-    let mut end = 0;
-    let mut kept = k;
+    let mut change = None;
     let mut i = m;
-    let mut j = k;
-    while j != 0 {
-        let v = word_ending(table, states, i, wide(reading[j - 1]));
-        let u = pick(table, counts, link(table, v), i);
-        if u != NONE {
-            state = u;
-            end = i;
-            kept = j;
+    for j in (0..k).rev() {
+        let v = word_ending(table, states, i, usize::from(reading[j])).unwrap();
+        if let Some(state) = pick(table, counts, link(table, v), i) {
+            change = Some(Change {
+                state,
+                end: i,
+                kept: j + 1,
+            });
         }
         i -= depth(table, v);
-        j -= 1;
     }
-    Change { state, end, kept }
+    change
 }

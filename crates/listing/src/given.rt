@@ -5,7 +5,7 @@ ghost use Rattle.meaning.specs.Listing.{is_reading};
 ghost use Rattle.listing.specs.Positions.{Given};
 
 use crate::ending::word_ending;
-use tree::{NONE, depth, wide};
+use tree::depth;
 
 // Whether the first k entries are a reading of the text of m letters. From the last one back, each has to be a word that ends
 // where the one after it begins, and the first has to begin the text. However large k is, at most m + 1 entries are looked at, 4,097
@@ -15,14 +15,11 @@ pub fn is_reading(table: &[u16], states: &[u16], m: usize, reading: &[u16], k: u
     ensures { (X : Words) (t : Word) → Given X t table.now states.now m reading.now k → result ≡ is_reading X t (take k reading.now) }
 {
     let mut i = m;
-    let mut j = k;
-    while j != 0 {
-        let v = word_ending(table, states, i, wide(reading[j - 1]));
-        if v == NONE {
+    for w in reading[..k].iter().rev() {
+        let Some(v) = word_ending(table, states, i, usize::from(*w)) else {
             return false;
-        }
+        };
         i -= depth(table, v);
-        j -= 1;
     }
     i == 0
 }

@@ -18,8 +18,7 @@ pub fn first_length(table: &[u16], states: &[u16], counts: &[u64], i: usize) -> 
 {
     let mut n = 0;
     let mut p = i;
-    while p != 0 {
-        let v = last_word(table, states, counts, p);
+    while let Some(v) = last_word(table, states, counts, p) {
         p -= depth(table, v);
         n += 1;
     }
@@ -38,10 +37,9 @@ pub fn write_first(
     requires { (X : Words) × (t : Word) × FirstFits X t table.now states.now counts.now i reading.old }
     ensures { (X : Words) (t : Word) → Readable X t table.now states.now counts.now i → Written (first_reading X t i) reading.old reading.new result }
 {
-    if i == 0 {
+    let Some(v) = last_word(table, states, counts, i) else {
         return 0;
-    }
-    let v = last_word(table, states, counts, i);
+    };
     let n = write_first(table, states, counts, i - depth(table, v), reading);
     reading[n] = word(table, v) as u16;
     n + 1

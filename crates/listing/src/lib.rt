@@ -6,8 +6,7 @@ mod ending;
 mod given;
 mod leading;
 mod listed;
-mod shifting;
 
 pub use ending::longest_ending;
 pub use given::is_reading;
-pub use listed::{Listed, first, next};
+pub use listed::{first, next};

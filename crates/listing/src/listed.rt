@@ -10,31 +10,29 @@ ghost use Rattle.listing.specs.Answers.{Answers};
 
 use crate::changing::change_of;
 use crate::leading::{first_length, write_ending, write_first};
-use crate::shifting::shift;
-use tree::{NONE, depth, word};
+use letters::Reason;
+use tree::{depth, word};
 
-// No reading (after the given one), a buffer too short for it, or the number of its words, which are written.
-#[derive(Clone, Copy)]
-pub enum Listed {
-    Nothing,
-    Short,
-    Words(usize),
-}
-
-// The first reading of the text of m letters.
-pub fn first(table: &[u16], states: &[u16], counts: &[u64], m: usize, reading: &mut [u16]) -> Listed
+// The first reading of the text of m letters: the number of its words, which are written, or none, or the refusal of a short buffer.
+pub fn first(
+    table: &[u16],
+    states: &[u16],
+    counts: &[u64],
+    m: usize,
+    reading: &mut [u16],
+) -> Result<Option<usize>, Reason>
     requires { (X : Words) × (t : Word) × Whole X t table.now states.now counts.now m }
     ensures { (X : Words) (t : Word) → Whole X t table.now states.now counts.now m → Answers (head? (readings X t)) reading.old reading.new result }
 {
     if counts[m] == 0 {
-        return Listed::Nothing;
+        return Ok(None);
     }
     let n = first_length(table, states, counts, m);
     if reading.len() < n {
-        return Listed::Short;
+        return Err(Reason::ShortBuffer);
     }
     write_first(table, states, counts, m, reading);
-    Listed::Words(n)
+    Ok(Some(n))
 }
 
 // The reading after the one that the first k entries are: one word is put in the place of another, before it stands the first
@@ -46,23 +44,27 @@ pub fn next(
     m: usize,
     reading: &mut [u16],
     k: usize,
-) -> Listed
+) -> Result<Option<usize>, Reason>
     requires { (X : Words) × (t : Word) × Giving X t table.now states.now counts.now m reading.old k }
     ensures { (X : Words) (t : Word) → Giving X t table.now states.now counts.now m reading.old k → Answers (next_reading X t (take k reading.old)) reading.old reading.new result }
 {
-    let change = change_of(table, states, counts, m, reading, k);
-    let state = change.state;
-    if state == NONE {
-        return Listed::Nothing;
-    }
-    let front = change.end - depth(table, state);
+    let Some(change) = change_of(table, states, counts, m, reading, k) else {
+        return Ok(None);
+    };
+    let front = change.end - depth(table, change.state);
     let n = first_length(table, states, counts, front) + 1;
-    let kept = k - change.kept;
-    let total = n + kept;
+    let total = n + (k - change.kept);
     if reading.len() < total {
-        return Listed::Short;
+        return Err(Reason::ShortBuffer);
     }
-    shift(reading, change.kept, n, kept);
-    write_ending(table, states, counts, front, word(table, state), reading);
-    Listed::Words(total)
+    reading.copy_within(change.kept..k, n);
+    write_ending(
+        table,
+        states,
+        counts,
+        front,
+        word(table, change.state),
+        reading,
+    );
+    Ok(Some(total))
 }

@@ -1,55 +1,28 @@
-// Numbers, refusals and readings, mixed into the checksum.
-ghost use Rattle.std.specs.Prelude.{◌<◌, ◌≤◌};
+// Numbers, readings and refusals, mixed into the checksum.
+use cases::Checksum;
+use orgamish::Refusal;
 
-use super::sum::mixed;
-
-pub fn wide(n: u16) -> u64
-    ensures { result < 65536 }
-{
-    n as u64
-}
-
-pub fn size(n: u16) -> usize
-    ensures { result < 65536 }
-{
-    n as usize
-}
-
-pub fn at_most(n: usize, most: usize) -> usize
-    ensures { result ≤ most }
-{
-    if n < most { n } else { most }
-}
-
-// The sum with the first `count` numbers.
-pub fn mixed_numbers(h: u64, numbers: &[u16], count: usize) -> u64 {
-    let end = at_most(count, numbers.len());
-    let mut sum = h;
-    for i in 0..end {
-        sum = mixed(sum, wide(numbers[i]));
+// Mixes in the first `count` of the numbers.
+pub fn mix_first<T: Copy + Into<u64>>(sum: &mut Checksum, numbers: &[T], count: usize) {
+    for n in numbers.iter().take(count) {
+        sum.mix((*n).into());
     }
-    sum
 }
 
-// The sum with the first `count` counts.
-pub fn mixed_counts(h: u64, counts: &[u64], count: usize) -> u64 {
-    let end = at_most(count, counts.len());
-    let mut sum = h;
-    for i in 0..end {
-        sum = mixed(sum, counts[i]);
-    }
-    sum
+// Mixes in the reading of so many words.
+pub fn mix_reading(sum: &mut Checksum, reading: &[u16], words: u16) {
+    sum.mix(u64::from(words));
+    mix_first(sum, reading, usize::from(words));
 }
 
-pub fn mixed_refusal(h: u64, number: u16, place: u16) -> u64 {
-    mixed(mixed(h, wide(number)), wide(place))
+// Mixes in a refusal's number and place.
+pub fn mix_refusal(sum: &mut Checksum, refusal: Refusal) {
+    sum.mix(u64::from(refusal.reason.number()));
+    sum.mix(u64::from(refusal.place));
 }
 
-// The sum with a refusal that no case should meet.
-pub fn mixed_surprise(h: u64, number: u16, place: u16) -> u64 {
-    mixed_refusal(mixed(h, 2), number, place)
-}
-
-pub fn mixed_reading(h: u64, reading: &[u16], words: u16) -> u64 {
-    mixed_numbers(mixed(h, wide(words)), reading, size(words))
+// Mixes in a refusal that no case should meet.
+pub fn mix_surprise(sum: &mut Checksum, refusal: Refusal) {
+    sum.mix(2);
+    mix_refusal(sum, refusal);
 }

@@ -1,16 +1,17 @@
 -- What the jump answers, and what it leaves in the buffer.
 use mathlib.Core.Path.{◌≡◌, sym, ap, ◌∙◌, subst}
-use mathlib.Core.Option.{Option, none, some}
+use mathlib.Core.Option.{Option as Maybe, none, some}
 use mathlib.Core.List.{List, []}
 use Prim.Native.Nat.{ℕ, ◌≤◌, ◌<◌}
 use native.Mathlib.Omega.{arith}
 use borrow.Author.Tests.{le-leb, lt-leb}
 use lib.ListN.{length, get_or, get_elem?}
+use Rattle.std.specs.Prelude.{Some, Ok, Err}
 use Rattle.meaning.specs.Words.{Word, Words, Reading}
 use Rattle.meaning.specs.Readings.{readings_to, readings, count_at}
 use Rattle.meaning.proofs.Lists.{none_at, some_at}
 use Rattle.listing.specs.Answers.{Answers}
-use Rattle.listing.specs.declared.listed.Listed.TheVariants.{Short, Words as Told}
+use Rattle.letters.specs.declared.refusal.Reason.TheVariants.{ShortBuffer}
 use Rattle.listing.proofs.Told.{answers_short, answers_words, whole_count}
 use Rattle.numbering.specs.Numbers.{Counted, Numbered, Exactly, WrittenIf}
 use Rattle.numbering.proofs.Stretches.{exact_count}
@@ -38,13 +39,13 @@ module _ {X : Words} {t : Word} {tb ss cs : List ℕ} {m : ℕ} (ξ : Exactly X 
       ∙ ap (λ (i : ℕ). some (get_or (readings_to X t i) n [])) (sym ξ.whole.long)
 
 -- by its words written, where they fit
-module _ {o : Option Reading} {ws : Reading} {b a : List ℕ} {r : ℕ} (w : WrittenIf ws 0 b a r) (e : o ≡ some ws) where
-  pub answered_short : length b < r → Answers o b a Short
+module _ {o : Maybe Reading} {ws : Reading} {b a : List ℕ} {r : ℕ} (w : WrittenIf ws 0 b a r) (e : o ≡ some ws) where
+  pub answered_short : length b < r → Answers o b a (Err ShortBuffer)
   answered_short h =
       let same : b ≡ a = sym (rw (lt-leb _ _ h) at w.list) in
-      subst (λ (l : List ℕ). Answers o b l Short) same (answers_short ws b e (omega (arith, w.total)))
+      subst (λ (l : List ℕ). Answers o b l (Err ShortBuffer)) same (answers_short ws b e (omega (arith, w.total)))
 
-  pub answered_words : r ≤ length b → Answers o b a (Told r)
+  pub answered_words : r ≤ length b → Answers o b a (Ok (Some r))
   answered_words h =
       answers_words ws b e (omega (arith, w.total))
       (record { count = omega (arith, w.total); list = rw (le-leb _ _ h) at w.list })

@@ -1,13 +1,10 @@
 -- The words before the last one of a numbered reading, and the last one written behind them.
 use mathlib.Core.Path.{◌≡◌, refl, sym, ap, ◌∙◌}
-use mathlib.Core.Bool.{Bool, true, false}
 use mathlib.Core.List.{List, []}
 use Prim.Native.Nat.{ℕ, suc, ◌+◌, ◌-◌, ◌≤◌, ◌<◌}
 use native.Mathlib.Omega.{arith}
 use borrow.Author.Tests.{le-leb, lt-leb}
-use lib.Dec.{leb}
 use lib.ListN.{length, get_or, set}
-use Rattle.std.specs.Prelude.{if◌then◌else◌}
 use Rattle.meaning.specs.Words.{Word, Words, Reading, snoc, size}
 use Rattle.meaning.specs.Table.{depth_field}
 use Rattle.meaning.specs.Readings.{readings_to, count_at}
@@ -47,14 +44,6 @@ module _ {X : Words} {t : Word} {tb ss cs : List ℕ} {i n v number : ℕ} (ν :
 
     pub reading_splits : get_or (readings_to X t i) n [] ≡ snoc (get_or (readings_to X t (i - d)) number []) λ₁.word
     reading_splits = λ₁.reading ∙ ap (λ (k : ℕ). snoc (get_or (readings_to X t (i - k)) number []) λ₁.word) (sym long)
-
--- no words
-pub no_words_written : {ws : Reading} {b : List ℕ} (more : ℕ) → ws ≡ [] → WrittenIf ws more b b more
-no_words_written {b = b} more e = rw e (record { total = omega arith; list = go (leb more (length b)) })
-  where
-    go : (q : Bool) → b ≡ (if q then b else b)
-    go true = refl
-    go false = refl
 
 -- one word more, where all fit and where they don't
 module _ {ws longer : Reading} {before after : List ℕ} {r : ℕ} (more n : ℕ) (w : WrittenIf ws (more + 1) before after r) (e : longer ≡ snoc ws n) where

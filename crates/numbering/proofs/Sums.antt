@@ -7,7 +7,6 @@ use Prim.Native.Nat.{ℕ, ◌+◌, ◌-◌, ◌≤◌, ◌<◌}
 use native.Mathlib.Omega.{arith}
 use borrow.Author.Tests.{ne_eqb}
 use lib.ListN.{length, get_or, take, drop}
-use Rattle.meaning.specs.Numbers.{absent, most_counted}
 use Rattle.meaning.specs.Words.{Word, Words, Reading, find, size}
 use Rattle.meaning.specs.Automaton.{chain}
 use Rattle.meaning.specs.Table.{depth_field}
@@ -16,11 +15,9 @@ use Rattle.meaning.specs.Listing.{is_reading}
 use Rattle.meaning.proofs.Find.{has_false}
 use Rattle.meaning.proofs.Numbers.{number_at, has_number}
 use Rattle.tree.specs.Layout.{field_at}
-use Rattle.listing.specs.Positions.{IsWord}
 use Rattle.listing.proofs.Steps.{word_size}
-use Rattle.listing.proofs.Search.{sought_none, sought_some}
 use Rattle.listing.proofs.Backwards.{Back, drop_all, drop_last, back_all, back_end, back_stops, back_on}
-use Rattle.numbering.specs.Numbers.{Together, Counted, Exactly, AheadOf}
+use Rattle.numbering.specs.Numbers.{Together, Counted, Exactly, Ahead}
 use Rattle.numbering.proofs.Stretches.{together_all, together_then, exact_before}
 
 -- the words before entry j have to read the first i letters; the readings that end with those from entry j on stand from n on
@@ -61,23 +58,16 @@ module _ {X : Words} {t : Word} {tb ss cs l : List ℕ} {m k : ℕ} (ξ : Exactl
     pub sum_left : j ≡ 0 → (i ≡ 0 → ⊥) → find (readings X t) (take k l) ≡ none
     sum_left z f = none_found ξ (take k l) (sym (ne_eqb i 0 f) ∙ back_end σ.back z)
 
-    module _ {w state number : ℕ} (f : j ≡ 0 → ⊥) (e : w ≡ get_or l (j - 1) 0) (β : AheadOf X t i w state number) where
-      pub sum_stops : state ≡ absent → find (readings X t) (take k l) ≡ none
-      sum_stops q =
-          none_found ξ (take k l) (back_stops σ.back room f e (sought_none (chain X (take i t)) β.found ξ.whole.scanned.table q))
+    module _ {w : ℕ} (f : 0 < j) (e : w ≡ get_or l (j - 1) 0) where
+      pub sum_stops : (Memᴰ w (chain X (take i t)) → ⊥) → find (readings X t) (take k l) ≡ none
+      sum_stops g = none_found ξ (take k l) (back_stops σ.back room f e g)
 
-      module _ (d : state ≡ absent → ⊥) where
-        pub sum_word : Memᴰ w (chain X (take i t)) × IsWord X state w
-        sum_word = sought_some (chain X (take i t)) β.found d
-
+      module _ {state number : ℕ} (α : Ahead X t i w state number) where
         more : Together X t (i - size X w) (length t) (w ∷ drop j (take k l)) (n + number)
-        more = together_then (β.together sum_word.0) σ.together
-
-        pub sum_fits : n + number < most_counted
-        sum_fits = omega (arith, more.room, ξ.exact)
+        more = together_then α.together σ.together
 
         pub sum_on : {s : ℕ} → s ≡ field_at tb state depth_field → Summing X t tb ss l k (i - s) (j - 1) (n + number)
         sum_on q = record {
-          back = back_on σ.back room f e sum_word.0 sum_word.1 q;
-          together = rw (word_size ξ.whole.scanned.table sum_word.1 q, drop_last l j k f σ.back.low room e) more;
+          back = back_on σ.back room f e α.in_chain α.is q;
+          together = rw (word_size ξ.whole.scanned.table α.is q, drop_last l j k f σ.back.low room e) more;
         }

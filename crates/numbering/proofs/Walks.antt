@@ -1,5 +1,5 @@
 -- The walk along the chain at a position, and the readings that end with the words passed.
-use mathlib.Core.Path.{◌≡◌, refl, sym, ap, ◌∙◌, subst}
+use mathlib.Core.Path.{◌≡◌, refl, sym, ap, ◌∙◌}
 use mathlib.Core.List.{List, [], ◌∷◌, Memᴰ}
 use Prim.Native.Nat.{ℕ, ◌+◌, ◌-◌, ◌≤◌, ◌<◌}
 use native.Mathlib.Omega.{arith}
@@ -10,11 +10,11 @@ use Rattle.meaning.specs.Automaton.{states, nearest, chain}
 use Rattle.meaning.specs.Table.{stored, word_field, link_field}
 use Rattle.meaning.specs.Readings.{readings_to, count_at}
 use Rattle.tree.specs.Layout.{field_at}
-use Rattle.tree.specs.Tree.{IsTable}
-use Rattle.listing.specs.Positions.{words_at, sought, IsWord, StateOf, Ending, ScannedAt}
+use Rattle.listing.specs.Positions.{words_at, sought, IsWord, Ending, ScannedAt}
 use Rattle.listing.proofs.Steps.{no_words, word_number, word_next, ending_on, placed, chain_there, ending_there}
 use Rattle.listing.proofs.Search as search
-use Rattle.numbering.specs.Numbers.{Exact, Together, Numbered, LastOf, AheadOf}
+use Rattle.listing.proofs.Search.{sought_none}
+use Rattle.numbering.specs.Numbers.{Exact, Together, Numbered, LastOf, Ahead}
 use Rattle.numbering.proofs.Stretches.{Passing, exact_before, exact_count, passing_none, passing_end, passing_word, passing_on}
 
 -- the walk stands at v, and p readings end with the words passed
@@ -96,23 +96,15 @@ pub find_first : {X : Words} {t : Word} {tb ss cs : List ℕ} {i v : ℕ} (w : �
 find_first w α e = record { walk = walk_first α e; same = ap (sought w) (sym (chain_there (placed α) e)) }
 
 module _ {X : Words} {t : Word} {tb cs : List ℕ} {i w v number : ℕ} (φ : Finding X t tb cs i w v number) where
-  pub find_end : v ≡ absent → AheadOf X t i w v number
-  find_end e = record { found = found; together = λ m. absurd (search.sought_none (chain X (take i t)) found table e m) }
-    where
-      table : IsTable X tb
-      table = φ.walk.ending.walking.table
-
-      found : StateOf X (sought w (chain X (take i t))) v
-      found = rw (φ.same, no_words table e) e
+  pub find_end : v ≡ absent → Memᴰ w (chain X (take i t)) → ⊥
+  find_end e = sought_none (chain X (take i t)) (φ.same ∙ ap (sought w) (no_words φ.walk.ending.walking.table e))
 
   module _ {m k : ℕ} (ω : IsWord X v m) (e : k ≡ field_at tb v word_field) where
-    pub find_here : k ≡ w → AheadOf X t i w v number
-    find_here f =
-        let q : m ≡ w = sym (word_number φ.walk.ending.walking.table ω e) ∙ f in
-        record {
-          found = rw (φ.same ∙ search.seek_here φ.walk.ending.walking ω e f) ω;
-          together = λ n. subst (λ (x : ℕ). Together X t (i - size X x) i (x ∷ []) number) q (walk_word φ.walk ω);
-        }
+    pub find_here : k ≡ w → Ahead X t i w v number
+    find_here f = rw q (record { in_chain = walk_mem φ.walk ω; is = ω; together = walk_word φ.walk ω })
+      where
+        q : w ≡ m
+        q = sym f ∙ word_number φ.walk.ending.walking.table ω e
 
     module _ {c : ℕ} (h : Exact X t i) (g : c ≡ count_at X t (i - size X m)) where
       pub find_fits : number + c < most_counted

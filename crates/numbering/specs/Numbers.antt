@@ -1,12 +1,13 @@
 -- Readings by their numbers in the list, where the counts are exact.
-use Rattle.std.specs.Prelude.{◌≡◌, ℕ, ◌+◌, ◌-◌, ◌≤◌, ◌<◌, leb, length, get_or, take, if◌then◌else◌}
+use Rattle.std.specs.Prelude.{◌≡◌, Option, None, Some, ℕ, ◌+◌, ◌-◌, ◌≤◌, ◌<◌, leb, length, get_or, take, if◌then◌else◌}
 use mathlib.Core.List.{List, [], ◌∷◌, ◌++◌, Memᴰ}
 use Rattle.meaning.specs.Numbers.{most_counted}
 use Rattle.meaning.specs.Words.{Word, Words, Reading, snoc, size}
 use Rattle.meaning.specs.Automaton.{chain}
 use Rattle.meaning.specs.Table.{over}
 use Rattle.meaning.specs.Readings.{readings_to}
-use Rattle.listing.specs.Positions.{sought, IsWord, StateOf, ScannedAt, Whole}
+use Rattle.listing.specs.Positions.{IsWord, ScannedAt, Whole}
+use Rattle.numbering.specs.declared.lasts.Chosen.{Chosen}
 
 -- the count at position i is the number of readings there
 abbrev pub Exact : Words → Word → ℕ → Type 0
@@ -41,10 +42,16 @@ pub record LastOf (X : Words) (t : Word) (i n state number : ℕ) : Type 0 where
   pub below : number < length (readings_to X t (i - size X word))
   pub reading : get_or (readings_to X t i) n [] ≡ snoc (get_or (readings_to X t (i - size X word)) number []) word
 
--- `state` is that of word w, if it ends at position i, or none, and the readings that end with w stand from `number` on
-pub record AheadOf (X : Words) (t : Word) (i w state number : ℕ) : Type 0 where
-  pub found : StateOf X (sought w (chain X (take i t))) state
-  pub together : Memᴰ w (chain X (take i t)) → Together X t (i - size X w) i (w ∷ []) number
+-- `state` is that of word w, which ends at position i, and the readings that end with w stand from `number` on
+pub record Ahead (X : Words) (t : Word) (i w state number : ℕ) : Type 0 where
+  pub in_chain : Memᴰ w (chain X (take i t))
+  pub is : IsWord X state w
+  pub together : Together X t (i - size X w) i (w ∷ []) number
+
+-- the state of word w and where its readings stand, if it ends at position i
+abbrev pub AheadOf : Words → Word → ℕ → ℕ → Option Chosen → Type 0
+AheadOf X t i w None = Memᴰ w (chain X (take i t)) → ⊥
+AheadOf X t i w (Some c) = Ahead X t i w c.state c.number
 
 -- the words ws, and `more` besides, are counted, and ws are written over a buffer where all of them fit it
 pub record WrittenIf (ws : Reading) (more : ℕ) (before after : List ℕ) (r : ℕ) : Type 0 where

@@ -1,9 +1,7 @@
 -- What the call for a number answers, by where the given words stand in the list.
-use Rattle.std.proofs.Math.Option.{Option, none, some}
-use Rattle.std.specs.Prelude.{ℕ}
-use Rattle.numbering.specs.declared.placing.Placed.{Placed}
-use Rattle.numbering.specs.declared.placing.Placed.TheVariants.{Nowhere, At}
+use Rattle.std.specs.Prelude.{Option, None, Some, ℕ}
+use Rattle.std.proofs.Math.Option.{Option as Maybe, none, some}
 
-abbrev pub placed : Option ℕ → Placed
-placed none = Nowhere
-placed (some n) = At n
+abbrev pub placed : Maybe ℕ → Option ℕ
+placed none = None
+placed (some n) = Some n

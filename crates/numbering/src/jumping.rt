@@ -7,7 +7,7 @@ ghost use Rattle.listing.specs.Answers.{Answers};
 ghost use Rattle.numbering.specs.Numbers.{Exactly, Numbered, WrittenIf};
 
 use crate::lasts::last_of;
-use listing::Listed;
+use letters::Reason;
 use tree::{depth, word};
 
 // Writes reading n of the first i letters, if there is room for it and for `after` words more, which the caller found behind it. Tells
@@ -53,16 +53,16 @@ pub fn jump(
     m: usize,
     reading: &mut [u16],
     n: u64,
-) -> Listed
+) -> Result<Option<usize>, Reason>
     requires { (X : Words) × (t : Word) × Exactly X t table.now states.now counts.now m }
     ensures { (X : Words) (t : Word) → Exactly X t table.now states.now counts.now m → Answers (get_elem? (readings X t) n) reading.old reading.new result }
 {
     if counts[m] <= n {
-        return Listed::Nothing;
+        return Ok(None);
     }
     let words = write_numbered(table, states, counts, m, n, 0, reading);
     if reading.len() < words {
-        return Listed::Short;
+        return Err(Reason::ShortBuffer);
     }
-    Listed::Words(words)
+    Ok(Some(words))
 }

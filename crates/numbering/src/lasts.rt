@@ -32,7 +32,8 @@ pub fn last_of(table: &[u16], states: &[u16], counts: &[u64], i: usize, n: u64) 
 {
     let mut state = longest_ending(table, states, i);
     let mut number = n;
-    while state != NONE {
+    // Reading n ends with some word of the chain.
+    loop {
         let count = count_before(table, counts, state, i);
         if number < count {
             return Chosen { state, number };
@@ -40,24 +41,22 @@ pub fn last_of(table: &[u16], states: &[u16], counts: &[u64], i: usize, n: u64) 
         number -= count;
         state = link(table, state);
     }
-    // Not reached: reading n ends with some word of the chain.
-    Chosen { state, number }
 }
 
-// The state of word w, if it ends at position i, or none, and how many of the readings of the first i letters end with a longer word.
+// The state of word w, if it ends at position i, and how many of the readings of the first i letters end with a longer word.
 // The chain is gone along once, at most r words.
-pub fn ahead_of(table: &[u16], states: &[u16], counts: &[u64], i: usize, w: usize) -> Chosen
+pub fn ahead_of(table: &[u16], states: &[u16], counts: &[u64], i: usize, w: usize) -> Option<Chosen>
     requires { (X : Words) × (t : Word) × Counted X t table.now states.now counts.now i }
-    ensures { (X : Words) (t : Word) → Counted X t table.now states.now counts.now i → AheadOf X t i w result.state result.number }
+    ensures { (X : Words) (t : Word) → Counted X t table.now states.now counts.now i → AheadOf X t i w result }
 {
     let mut state = longest_ending(table, states, i);
     let mut number = 0;
     while state != NONE {
         if word(table, state) == w {
-            return Chosen { state, number };
+            return Some(Chosen { state, number });
         }
         number += count_before(table, counts, state, i);
         state = link(table, state);
     }
-    Chosen { state, number }
+    None
 }

@@ -7,4 +7,4 @@ mod lasts;
 mod placing;
 
 pub use jumping::jump;
-pub use placing::{Placed, place};
+pub use placing::place;

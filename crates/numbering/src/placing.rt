@@ -6,16 +6,9 @@ ghost use Rattle.numbering.specs.Numbers.{Exactly};
 ghost use Rattle.numbering.specs.Places.{placed};
 
 use crate::lasts::ahead_of;
-use tree::{NONE, depth, wide};
+use tree::depth;
 
-// No reading of the text, or its number.
-#[derive(Clone, Copy)]
-pub enum Placed {
-    Nowhere,
-    At(u64),
-}
-
-// The number of the reading that the first k entries are, of the text of m letters: from the last word back, the readings that end
+// The number of the reading that the first k entries are, of the text of m letters, if they are one: from the last word back, the readings that end
 // with a longer word come before it. They are found to be a reading on the way, so each chain is gone along once; however large k is,
 // at most m + 1 entries are looked at, 4,097 at the limits.
 pub fn place(
@@ -25,25 +18,16 @@ pub fn place(
     m: usize,
     reading: &[u16],
     k: usize,
-) -> Placed
+) -> Option<u64>
     requires { (X : Words) × (t : Word) × Exactly X t table.now states.now counts.now m × (k ≤ length reading.now) }
     ensures { (X : Words) (t : Word) → Exactly X t table.now states.now counts.now m → result ≡ placed (find (readings X t) (take k reading.now)) }
 {
     let mut n = 0;
     let mut i = m;
-    let mut j = k;
-    while j != 0 {
-        let last = ahead_of(table, states, counts, i, wide(reading[j - 1]));
-        if last.state == NONE {
-            return Placed::Nowhere;
-        }
+    for w in reading[..k].iter().rev() {
+        let last = ahead_of(table, states, counts, i, usize::from(*w))?;
         n += last.number;
         i -= depth(table, last.state);
-        j -= 1;
     }
-    if i == 0 {
-        Placed::At(n)
-    } else {
-        Placed::Nowhere
-    }
+    if i == 0 { Some(n) } else { None }
 }

@@ -19,7 +19,7 @@ use Rattle.judging.specs.Under.{words_under}
 use Rattle.judging.specs.Order.{scan_refusal}
 use Rattle.orgamish.specs.Calls.{scan_tells}
 use Rattle.orgamish.specs.Answers.{scan_told}
-use Rattle.orgamish.specs.declared.answers.ScanAnswer.TheVariants as scan
+use Rattle.std.specs.Prelude.{Ok}
 use Rattle.judging.proofs.Under.{under_ran}
 use Rattle.orgamish.proofs.Demands.{accepts_reading}
 
@@ -60,7 +60,7 @@ module _ (m d : List ℕ) (bytes : (x : ℕ) → letter m x < letter_values) {X 
 
   -- demand 2: accepted exactly where words, joined, equal the text under the map
   pub accepts_alike : (tb u ss cs : List ℕ) → scan_refusal X tb (mapped m u) ss cs ≡ 0 → (verdict : Bool) (f c p : ℕ)
-      → scan_told (scan.Scanned verdict f c p) ≡ scan_tells (words_under m d) tb (mapped m u) ss cs
+      → scan_told (Ok (record { accepted = verdict; farthest = f; count = c; probes = p })) ≡ scan_tells (words_under m d) tb (mapped m u) ss cs
       → (verdict ≡ true) ↔ ((ns : Reading) × ReadsUnder m W u ns)
   accepts_alike tb u ss cs clear verdict f c p e =
       let found = accepts_reading is allowed_under tb (mapped m u) ss cs clear verdict f c p e in (

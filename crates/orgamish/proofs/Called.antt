@@ -1,10 +1,12 @@
 -- What a call tells and leaves, by the tests that were made.
 use mathlib.Core.Path.{◌≡◌, refl, sym, ap, ◌∙◌}
 use mathlib.Core.Bool.{Bool, true, false}
-use mathlib.Core.List.{List, ◌∷◌}
+use mathlib.Core.List.{List, ◌∷◌, cons≢nil}
 use Prim.Native.Nat.{ℕ, zero, suc, ◌≤◌}
 use native.Mathlib.Omega.{arith}
-use lib.Dec.{ltb}
+use lib.Dec.{ltb, eqb}
+use Rattle.letters.specs.Refusal.{number_of}
+use Rattle.letters.proofs.Reasons.{some_number}
 use lib.ListN.{length}
 use borrow.Author.Tests.{lt-ltb, le-ltb}
 use Rattle.meaning.specs.Numbers.{longest_word}
@@ -19,11 +21,14 @@ use Rattle.meaning.proofs.Counts.{count_readable, count_unreadable}
 use Rattle.records.specs.Run.{Run, ran, refused}
 use Rattle.records.specs.Told.{Told, refusal, answer}
 use Rattle.automaton.specs.Lending.{too_short, wrote}
-use Rattle.automaton.specs.declared.lending.Wrote.TheVariants as write
+use Rattle.automaton.specs.declared.building.Built.{Built}
+use Rattle.letters.specs.declared.refusal.Reason.{Reason}
+use Rattle.letters.specs.declared.refusal.Reason.TheVariants.{ShortTable}
+use Rattle.std.specs.Prelude.{Ok, Err}
+use Rattle.records.proofs.Determined.{parts}
 use Rattle.judging.specs.Order.{◌and_then◌}
 use Rattle.judging.specs.Judging.{passed, verdict}
 use Rattle.orgamish.specs.Calls.{told_by, left_by, tells, leaves}
-use Rattle.judging.specs.declared.judging.Verdict.TheVariants.{Refused}
 use Rattle.judging.proofs.Verdicts.{Passes}
 
 -- the dictionary is that of X, and the tests come to n
@@ -39,6 +44,14 @@ module _ {test : Words → ℕ} {run : Run} {X : Words} {n : ℕ} (κ : Came tes
   pub came_leaves : (after : Words → List ℕ) (before : List ℕ) → left_by n (after X) before ≡ leaves test after before run
   came_leaves after before =
       ap (λ (k : ℕ). left_by k (after X) before) (sym κ.comes) ∙ ap (leaves test after before) (sym κ.is)
+
+-- a reason is told by its number, at place 0
+pub told_reason : (a : Reason) (values : List ℕ) → told_by (number_of a) values ≡ refusal (number_of a) 0
+told_reason a values = go (number_of a) (some_number a)
+  where
+    go : (n : ℕ) → eqb n 0 ≡ false → told_by n values ≡ refusal n 0
+    go zero e = let z : ◌≡◌ {A = ℕ} 0 1 = cc in absurd (omega arith)
+    go (suc n) e = refl
 
 -- an answer whose number is 0 is no refusal
 pub tells_clear : (test : Words → ℕ) (values : Words → List ℕ) {run : Run} {X : Words} {end : ℕ} → run ≡ ran X end
@@ -60,22 +73,22 @@ tells_answer test values {run} {X} {end} {v} {vs} is e = go (test X) refl (ap (t
 
 -- the shared tests refuse
 module _ (test : Words → ℕ) where
-  pub tells_refused : (values : Words → List ℕ) (run : Run) {number place : ℕ} → Refused number place ≡ verdict test run
+  pub tells_refused : (values : Words → List ℕ) (run : Run) {number place : ℕ} → refusal number place ≡ verdict test run
       → refusal number place ≡ tells test values run
-  tells_refused values (refused n p) e = cc
+  tells_refused values (refused n p) e = e
   tells_refused values (ran X end) {number} {place} e = go (test X) e
     where
-      go : (k : ℕ) → Refused number place ≡ passed k → refusal number place ≡ told_by k (values X)
-      go zero q = let z : ◌≡◌ {A = ℕ} 0 1 = cc in absurd (omega arith)
-      go (suc k) q = cc
+      go : (k : ℕ) → refusal number place ≡ passed k → refusal number place ≡ told_by k (values X)
+      go zero q = absurd (cons≢nil (sym (parts q).values))
+      go (suc k) q = q
 
-  pub leaves_refused : (after : Words → List ℕ) (before : List ℕ) (run : Run) {number place : ℕ} → Refused number place ≡ verdict test run
+  pub leaves_refused : (after : Words → List ℕ) (before : List ℕ) (run : Run) {number place : ℕ} → refusal number place ≡ verdict test run
       → before ≡ leaves test after before run
   leaves_refused after before (refused n p) e = refl
   leaves_refused after before (ran X end) {number} {place} e = go (test X) e
     where
-      go : (k : ℕ) → Refused number place ≡ passed k → before ≡ left_by k (after X) before
-      go zero q = let z : ◌≡◌ {A = ℕ} 0 1 = cc in absurd (omega arith)
+      go : (k : ℕ) → refusal number place ≡ passed k → before ≡ left_by k (after X) before
+      go zero q = absurd (cons≢nil (sym (parts q).values))
       go (suc k) q = refl
 
 -- the first tests pass, and so others decide
@@ -96,25 +109,29 @@ pub then_comes : (m n : ℕ) {k : ℕ} → m ≡ 0 → n ≡ k → m and_then n 
 then_comes m n e f = ap (λ (j : ℕ). j and_then n) e ∙ f
 
 -- what became of a lent table
-pub wrote_short : (X : Words) (T tb : List ℕ) → write.Short ≡ wrote X T tb → too_short T tb ≡ true
-wrote_short X T tb e = go (too_short T tb) e
+abbrev measured : Words → Built
+measured X = record { states = length (states X); longest = longest_chain X }
+
+pub wrote_short : (X : Words) (T tb : List ℕ) {a : Reason} → Err a ≡ wrote X T tb → (a ≡ ShortTable) × (too_short T tb ≡ true)
+wrote_short X T tb {a} e = go (too_short T tb) e
   where
-    go : (b : Bool) → write.Short ≡ (if b then write.Short else write.Rows (length (states X)) (longest_chain X)) → b ≡ true
-    go true q = refl
+    go : (b : Bool) → Err a ≡ (if b then Err ShortTable else Ok (measured X)) → (a ≡ ShortTable) × (b ≡ true)
+    go true q = (cc, refl)
     go false q = let z : ◌≡◌ {A = ℕ} 0 1 = cc in absurd (omega arith)
 
-pub record WroteRows (X : Words) (T tb : List ℕ) (count longest : ℕ) : Type 0 where
+pub record WroteRows (X : Words) (T tb : List ℕ) (b : Built) : Type 0 where
   pub fits : too_short T tb ≡ false
-  pub states : count ≡ length (states X)
-  pub chain : longest ≡ longest_chain X
+  pub states : b.states ≡ length (states X)
+  pub chain : b.longest ≡ longest_chain X
 
-pub wrote_rows : (X : Words) (T tb : List ℕ) {s l : ℕ} → write.Rows s l ≡ wrote X T tb → WroteRows X T tb s l
-wrote_rows X T tb {s} {l} e = go (too_short T tb) refl e
+pub wrote_rows : (X : Words) (T tb : List ℕ) {b : Built} → Ok b ≡ wrote X T tb → WroteRows X T tb b
+wrote_rows X T tb {b} e = go (too_short T tb) refl e
   where
-    go : (b : Bool) → too_short T tb ≡ b → write.Rows s l ≡ (if b then write.Short else write.Rows (length (states X)) (longest_chain X))
-        → WroteRows X T tb s l
-    go true p q = let z : ◌≡◌ {A = ℕ} 0 1 = cc in absurd (omega arith)
-    go false p q = record { fits = p; states = cc; chain = cc }
+    go : (q : Bool) → too_short T tb ≡ q → Ok b ≡ (if q then Err ShortTable else Ok (measured X)) → WroteRows X T tb b
+    go true p f = let z : ◌≡◌ {A = ℕ} 0 1 = cc in absurd (omega arith)
+    go false p f =
+        let same : b ≡ measured X = cc in
+        record { fits = p; states = ap (λ (k : Built). k.states) same; chain = ap (λ (k : Built). k.longest) same }
 
 -- r is no more than the letters of a word
 pub longest_small : (X : Words) → Allowed X → longest_chain X ≤ longest_word

@@ -28,7 +28,7 @@ use Rattle.judging.specs.Order.{◌and_then◌, scan_refusal, list_refusal, unre
 use Rattle.orgamish.specs.Calls.{flag, length_of, listed, scan_tells, first_tells, first_leaves, next_tells, next_leaves}
 use Rattle.orgamish.specs.Answers.{scan_told}
 use Rattle.orgamish.specs.Listings.{Heard, heard, go_on, listing_from, listing}
-use Rattle.orgamish.specs.declared.answers.ScanAnswer.TheVariants as scan
+use Rattle.std.specs.Prelude.{Ok}
 use Rattle.judging.proofs.Cleared.{scanned}
 use Rattle.orgamish.proofs.Called.{Came, came_tells, came_leaves, then_comes}
 use Rattle.orgamish.proofs.Listings.{reading_short}
@@ -66,7 +66,7 @@ module _ {run : Run} {X : Words} {end : ℕ} (is : run ≡ ran X end) (allowed :
   module _ (tb : List ℕ) (t : Word) (ss cs : List ℕ) where
     -- what an answer of the scan says
     module _ (clear : scan_refusal X tb t ss cs ≡ 0) (yes : Bool) (f c p : ℕ)
-        (e : scan_told (scan.Scanned yes f c p) ≡ scan_tells run tb t ss cs) where
+        (e : scan_told (Ok (record { accepted = yes; farthest = f; count = c; probes = p })) ≡ scan_tells run tb t ss cs) where
       abbrev values : Words → List ℕ
       values Y = flag (accepted Y t) ∷ farthest Y t ∷ count_at Y t (length t) ∷ probes Y t ∷ []
 

@@ -24,8 +24,7 @@ use Rattle.judging.specs.Order.{◌and_then◌, list_refusal, counted_refusal, u
 use Rattle.orgamish.specs.Calls.{told_by, left_by, length_of, number_of, listed, first_tells, first_leaves, next_tells, next_leaves, jump_tells, jump_leaves, place_tells}
 use Rattle.orgamish.specs.Answers.{first_told, place_told}
 use Rattle.orgamish.specs.Listings.{Outcome, outcome, words_told, next_times}
-use Rattle.orgamish.specs.declared.answers.FirstAnswer.TheVariants as first
-use Rattle.orgamish.specs.declared.answers.PlaceAnswer.TheVariants as place
+use Rattle.std.specs.Prelude.{Ok}
 use Rattle.judging.proofs.Orders.{greatest_before_number, greatest_before_words}
 use Rattle.judging.proofs.Cleared.{none_first, none_second, test_true, counted_lists, counted_below, counted_exact}
 use Rattle.orgamish.proofs.Called.{Came, came_tells, came_leaves, tells_answer, then_comes}
@@ -170,7 +169,7 @@ module _ {run : Run} {X : Words} {end : ℕ} (is : run ≡ ran X end) (allowed :
       )
 
   -- a jump that told k words
-  module _ (b : List ℕ) (n k : ℕ) (e : jump_tells run tb t ss cs b n ≡ first_told (first.Words k)) where
+  module _ (b : List ℕ) (n k : ℕ) (e : jump_tells run tb t ss cs b n ≡ first_told (Ok k)) where
     passed : (jump_refusal X tb t ss cs b n ≡ 0) × (length_of (get_elem? R n) ≡ 1 ∷ k ∷ [])
     passed = tells_answer (λ Y. jump_refusal Y tb t ss cs b n) (λ Y. length_of (get_elem? (readings Y t) n)) is e
 
@@ -201,7 +200,7 @@ module _ {run : Run} {X : Words} {end : ℕ} (is : run ≡ ran X end) (allowed :
     jumped = (jump_call clear b n ns below (some_at R n [] below) room).1
 
     -- place of jump n is n
-    pub place_of_jump : place_tells run tb t ss cs (jump_leaves run tb t ss cs b n) k ≡ place_told (place.At n)
+    pub place_of_jump : place_tells run tb t ss cs (jump_leaves run tb t ss cs b n) k ≡ place_told (Ok n)
     place_of_jump =
         ap (λ (l : List ℕ). place_tells run tb t ss cs l k) jumped
         ∙ place_call clear (over ns b) k n (omega (arith, long, over_long ns b room, room))
@@ -211,7 +210,7 @@ module _ {run : Run} {X : Words} {end : ℕ} (is : run ≡ ran X end) (allowed :
 
     -- jump n is first, and then n times next, where the buffer has room for all readings
     pub jump_is_nexts : length t ≤ length b → let o = next_times run tb t ss cs n b in
-        (o.told ≡ first_told (first.Words k)) × (take k o.buffer ≡ take k (jump_leaves run tb t ss cs b n))
+        (o.told ≡ first_told (Ok k)) × (take k o.buffer ≡ take k (jump_leaves run tb t ss cs b n))
     jump_is_nexts h =
         let ρ = reached clear b h n below in (
           ρ.told ∙ ap (λ (i : ℕ). answer (1 ∷ i ∷ [])) (sym long),
@@ -219,8 +218,8 @@ module _ {run : Run} {X : Words} {end : ℕ} (is : run ≡ ran X end) (allowed :
         )
 
   -- a place that was told: the jump there writes the reading that was given, to any buffer with room for it
-  pub jump_to_place : (b : List ℕ) (k n : ℕ) → place_tells run tb t ss cs b k ≡ place_told (place.At n) → (c : List ℕ) → k ≤ length c
-      → (jump_tells run tb t ss cs c n ≡ first_told (first.Words k)) × (jump_leaves run tb t ss cs c n ≡ over (take k b) c)
+  pub jump_to_place : (b : List ℕ) (k n : ℕ) → place_tells run tb t ss cs b k ≡ place_told (Ok n) → (c : List ℕ) → k ≤ length c
+      → (jump_tells run tb t ss cs c n ≡ first_told (Ok k)) × (jump_leaves run tb t ss cs c n ≡ over (take k b) c)
   jump_to_place b k n e c h =
       let (z, v) = tells_answer (λ Y. place_refusal Y tb t ss cs b k) (λ Y. number_of (find (readings Y t) (take k b))) is e in
       let clear = none_first (counted_refusal X tb t ss cs) (given_refusal X t b k) z in
@@ -232,6 +231,6 @@ module _ {run : Run} {X : Words} {end : ℕ} (is : run ≡ ran X end) (allowed :
       (told ∙ ap (λ (i : ℕ). answer (1 ∷ i ∷ [])) long, left)
 
   -- .. and leaves the buffer that it was given in as it was
-  pub jump_back : (b : List ℕ) (k n : ℕ) → place_tells run tb t ss cs b k ≡ place_told (place.At n) → k ≤ length b
+  pub jump_back : (b : List ℕ) (k n : ℕ) → place_tells run tb t ss cs b k ≡ place_told (Ok n) → k ≤ length b
       → jump_leaves run tb t ss cs b n ≡ b
   jump_back b k n e h = (jump_to_place b k n e b h).1 ∙ over_itself k b h

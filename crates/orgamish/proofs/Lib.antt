@@ -8,3 +8,4 @@ pub mod Alike
 pub mod Jumps
 pub mod Unique
 pub mod Examples
+pub mod Asked

@@ -20,8 +20,10 @@ use Rattle.meaning.proofs.Readings.{readings_are}
 use Rattle.meaning.proofs.Next.{next_of_reading}
 use Rattle.records.specs.Run.{Run}
 use Rattle.listing.specs.Answers.{Answers, answer, left}
-use Rattle.listing.specs.declared.listed.Listed.{Listed}
-use Rattle.listing.specs.declared.listed.Listed.TheVariants as list
+use Rattle.std.specs.Prelude.{Option as Maybe, None, Some, Result, Ok, Err}
+use Rattle.letters.specs.Refusal.{number_of as reason_number}
+use Rattle.letters.specs.declared.refusal.Reason.{Reason}
+use Rattle.letters.specs.declared.refusal.Reason.TheVariants.{ShortBuffer}
 use Rattle.numbering.specs.Numbers.{Exact}
 use Rattle.numbering.proofs.Stretches.{exact_count}
 use Rattle.judging.specs.Order.{◌and_then◌, unread_refusal, is_given, fit_refusal, number_refusal}
@@ -30,20 +32,26 @@ use Rattle.judging.proofs.Verdicts.{Passes}
 use Rattle.orgamish.proofs.Called.{Came, came_tells, came_leaves, then_comes}
 
 -- the refusal's number, where having no reading is refused as k
+abbrev pub Listed : Type 0
+Listed = Result (Maybe ℕ) Reason
+
 abbrev pub number_by : ℕ → Listed → ℕ
-number_by k list.Nothing = k
-number_by k list.Short = 14
-number_by k (list.Words n) = 0
+number_by k (Ok None) = k
+number_by k (Ok (Some n)) = 0
+number_by k (Err reason) = reason_number reason
 
 abbrev pub values_by : Listed → List ℕ
-values_by list.Nothing = 0 ∷ []
-values_by list.Short = []
-values_by (list.Words n) = 1 ∷ n ∷ []
+values_by (Ok None) = 0 ∷ []
+values_by (Ok (Some n)) = 1 ∷ n ∷ []
+values_by (Err reason) = []
+
+abbrev written : Bool → Reading → Listed
+written q ws = if q then Ok (Some (length ws)) else Err ShortBuffer
 
 fit_number : (k : ℕ) (ws : Reading) (b : List ℕ) → fit_refusal (some ws) b ≡ number_by k (answer (some ws) b)
 fit_number k ws b = go (leb (length ws) (length b))
   where
-    go : (q : Bool) → (if q then 0 else 14) ≡ number_by k (if q then list.Words (length ws) else list.Short)
+    go : (q : Bool) → (if q then 0 else 14) ≡ number_by k (written q ws)
     go true = refl
     go false = refl
 
@@ -73,7 +81,7 @@ listing_told : (k : ℕ) (o : Option Reading) (b : List ℕ)
 listing_told k none b = refl
 listing_told k (some ws) b = go (leb (length ws) (length b))
   where
-    go : (q : Bool) → let r = if q then list.Words (length ws) else list.Short in
+    go : (q : Bool) → let r = written q ws in
         told_by (number_by k r) (values_by r) ≡ told_by (number_by k r) (1 ∷ length ws ∷ [])
     go true = refl
     go false = refl
@@ -84,7 +92,7 @@ listing_left (suc k) none b = refl
 listing_left k (some ws) b = go (leb (length ws) (length b))
   where
     go : (q : Bool) → (if q then over ws b else b)
-        ≡ left_by (number_by k (if q then list.Words (length ws) else list.Short)) (over ws b) b
+        ≡ left_by (number_by k (written q ws)) (over ws b) b
     go true = refl
     go false = refl
 
@@ -106,11 +114,11 @@ module _ (before rest : Words → ℕ) (chosen : Words → Option Reading) (b : 
   answer_left = α.buffer ∙ listing_left k (chosen p.X) b ∙ came_leaves came (λ X. listed (chosen X) b) b
 
 -- the reading whose words were counted
-pub answer_words : (o : Option Reading) (b : List ℕ) {n : ℕ} → list.Words n ≡ answer o b → (ws : Reading) × (o ≡ some ws) × (n ≡ length ws)
+pub answer_words : (o : Option Reading) (b : List ℕ) {n : ℕ} → Ok (Some n) ≡ answer o b → (ws : Reading) × (o ≡ some ws) × (n ≡ length ws)
 answer_words none b e = let z : ◌≡◌ {A = ℕ} 0 1 = cc in absurd (omega arith)
 answer_words (some ws) b {n} e = go (leb (length ws) (length b)) e
   where
-    go : (q : Bool) → list.Words n ≡ (if q then list.Words (length ws) else list.Short)
+    go : (q : Bool) → Ok (Some n) ≡ (written q ws)
         → (vs : Reading) × (some ws ≡ some vs) × (n ≡ length vs)
     go true f = (ws, refl, cc)
     go false f = let z : ◌≡◌ {A = ℕ} 0 1 = cc in absurd (omega arith)

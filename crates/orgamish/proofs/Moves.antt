@@ -14,7 +14,7 @@ use Rattle.records.specs.Told.{Told, refusal, answer}
 use Rattle.judging.specs.Order.{table_refusal, build_refusal, move_refusal}
 use Rattle.orgamish.specs.Calls.{told_by, tells, measures, move_tells, move_leaves, widen_tells, widen_leaves, narrow_tells, narrow_leaves}
 use Rattle.orgamish.specs.Answers.{build_told}
-use Rattle.orgamish.specs.declared.answers.BuildAnswer.TheVariants.{Built}
+use Rattle.std.specs.Prelude.{Ok}
 use Rattle.judging.proofs.Verdicts.{Passes}
 use Rattle.judging.proofs.Orders.{input_before}
 use Rattle.judging.proofs.Cleared.{none_first, begins_with, long_enough}
@@ -96,11 +96,11 @@ comes_back form other run input lent e =
     )
 
 -- a narrow table nt that is widened to tb, and narrowed again
-pub widened_back : (run : Run) (tb nt : List ℕ) {w n r : ℕ} → widen_tells run tb nt ≡ build_told (Built w n r)
-    → (narrow_tells run (widen_leaves run tb nt) nt ≡ build_told (Built w n r)) × (narrow_leaves run (widen_leaves run tb nt) nt ≡ nt)
+pub widened_back : (run : Run) (tb nt : List ℕ) {w n r : ℕ} → widen_tells run tb nt ≡ build_told (Ok (record { words = w; states = n; longest = r }))
+    → (narrow_tells run (widen_leaves run tb nt) nt ≡ build_told (Ok (record { words = w; states = n; longest = r }))) × (narrow_leaves run (widen_leaves run tb nt) nt ≡ nt)
 widened_back run tb nt e = comes_back table narrow_table run nt tb e
 
 -- a table tb that is narrowed to nt, and widened again
-pub narrowed_back : (run : Run) (tb nt : List ℕ) {w n r : ℕ} → narrow_tells run tb nt ≡ build_told (Built w n r)
-    → (widen_tells run tb (narrow_leaves run tb nt) ≡ build_told (Built w n r)) × (widen_leaves run tb (narrow_leaves run tb nt) ≡ tb)
+pub narrowed_back : (run : Run) (tb nt : List ℕ) {w n r : ℕ} → narrow_tells run tb nt ≡ build_told (Ok (record { words = w; states = n; longest = r }))
+    → (widen_tells run tb (narrow_leaves run tb nt) ≡ build_told (Ok (record { words = w; states = n; longest = r }))) × (widen_leaves run tb (narrow_leaves run tb nt) ≡ tb)
 narrowed_back run tb nt e = comes_back narrow_table table run tb nt e

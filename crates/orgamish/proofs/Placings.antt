@@ -12,20 +12,19 @@ use Rattle.meaning.specs.Plain.{Dictionary}
 use Rattle.meaning.proofs.Numbers.{has_number}
 use Rattle.records.specs.Run.{Run}
 use Rattle.numbering.specs.Places.{placed}
-use Rattle.numbering.specs.declared.placing.Placed.{Placed}
-use Rattle.numbering.specs.declared.placing.Placed.TheVariants as place
+use Rattle.std.specs.Prelude.{Option as Maybe, None, Some}
 use Rattle.judging.specs.Order.{◌and_then◌, given_refusal}
 use Rattle.orgamish.specs.Calls.{told_by, tells, number_of}
 use Rattle.judging.proofs.Verdicts.{Passes}
 use Rattle.orgamish.proofs.Called.{Came, came_tells, then_comes}
 
-abbrev pub placed_number : Placed → ℕ
-placed_number place.Nowhere = 13
-placed_number (place.At n) = 0
+abbrev pub placed_number : Maybe ℕ → ℕ
+placed_number None = 13
+placed_number (Some n) = 0
 
-abbrev pub placed_values : Placed → List ℕ
-placed_values place.Nowhere = []
-placed_values (place.At n) = n ∷ []
+abbrev pub placed_values : Maybe ℕ → List ℕ
+placed_values None = []
+placed_values (Some n) = n ∷ []
 
 -- more words than entries are refused, and so are those that stand nowhere
 pub too_many : (X : Words) (t : Word) (b : List ℕ) (k : ℕ) → length b < k → given_refusal X t b k ≡ 13
@@ -58,9 +57,9 @@ module _ (before : Words → ℕ) (t : Word) (b : List ℕ) (k : ℕ) {run : Run
   pub many_told : length b < k → told_by 13 (numbers p.X) ≡ tells test numbers run
   many_told h = came_tells (came (too_many p.X t b k h)) numbers
 
-  pub place_told_lem : Dictionary p.X → k ≤ length b → {r : Placed} → r ≡ placed (find (readings p.X t) (take k b))
+  pub place_told_lem : Dictionary p.X → k ≤ length b → {r : Maybe ℕ} → r ≡ placed (find (readings p.X t) (take k b))
       → told_by (placed_number r) (placed_values r) ≡ tells test numbers run
   place_told_lem D h e =
-      ap (λ (q : Placed). told_by (placed_number q) (placed_values q)) e
+      ap (λ (q : Maybe ℕ). told_by (placed_number q) (placed_values q)) e
       ∙ placed_told (find (readings p.X t) (take k b))
       ∙ came_tells (came (given_number p.X D t b k h)) numbers

@@ -30,11 +30,8 @@ use Rattle.judging.specs.Order.{◌and_then◌, build_refusal, move_refusal, sca
 use Rattle.judging.proofs.Cleared.{none_first, none_second, test_true, scanned}
 use Rattle.orgamish.specs.Calls.{flag, measures, tells, length_of, listed, number_of, build_tells, widen_tells, narrow_tells, scan_tells, scan_leaves_counts, next_tells, next_leaves, jump_tells, place_tells}
 use Rattle.orgamish.specs.Answers.{build_told, scan_told, next_told, place_told}
-use Rattle.orgamish.specs.declared.answers.BuildAnswer.TheVariants as built
-use Rattle.orgamish.specs.declared.answers.ScanAnswer.TheVariants as scan
-use Rattle.orgamish.specs.declared.answers.NextAnswer.{NextAnswer}
-use Rattle.orgamish.specs.declared.answers.NextAnswer.TheVariants as next
-use Rattle.orgamish.specs.declared.answers.PlaceAnswer.TheVariants as place
+use Rattle.std.specs.Prelude.{Option as Maybe, None, Result, Ok}
+use Rattle.letters.specs.declared.refusal.Refusal.{Refusal}
 use Rattle.orgamish.proofs.Called.{Came, came_tells, came_leaves, tells_clear, tells_answer, then_comes, counted_accepted}
 use Rattle.orgamish.proofs.Listings.{given_reads}
 use Rattle.orgamish.proofs.Determined.{next_decides}
@@ -57,7 +54,7 @@ module _ (m d : List ℕ) (bytes : (x : ℕ) → letter m x < letter_values) {X 
   under = none_alike m d bytes is
 
   -- r is at most 1 exactly where no word is a proper suffix of another
-  told_r : (test : Words → ℕ) {w s r : ℕ} → build_told (built.Built w s r) ≡ tells test measures (words_under m d)
+  told_r : (test : Words → ℕ) {w s r : ℕ} → build_told (Ok (record { words = w; states = s; longest = r })) ≡ tells test measures (words_under m d)
       → (r ≤ 1) ↔ NoneIs (Under ProperSuffix m) raw
   told_r test {r = r} e =
       let (z, v) = tells_answer test measures is (sym e) in
@@ -66,14 +63,14 @@ module _ (m d : List ℕ) (bytes : (x : ℕ) → letter m x < letter_values) {X 
       (λ h. (under ProperSuffix).0 (g (omega arith)), λ free. omega (arith, f ((under ProperSuffix).1 free)))
 
   module _ (tb : List ℕ) (w s r : ℕ) where
-    pub build_r : build_told (built.Built w s r) ≡ build_tells (words_under m d) tb → (r ≤ 1) ↔ NoneIs (Under ProperSuffix m) raw
+    pub build_r : build_told (Ok (record { words = w; states = s; longest = r })) ≡ build_tells (words_under m d) tb → (r ≤ 1) ↔ NoneIs (Under ProperSuffix m) raw
     build_r = told_r (λ Y. build_refusal (table Y) tb)
 
-    pub widen_r : (nt : List ℕ) → build_told (built.Built w s r) ≡ widen_tells (words_under m d) tb nt
+    pub widen_r : (nt : List ℕ) → build_told (Ok (record { words = w; states = s; longest = r })) ≡ widen_tells (words_under m d) tb nt
         → (r ≤ 1) ↔ NoneIs (Under ProperSuffix m) raw
     widen_r nt = told_r (λ Y. move_refusal (narrow_table Y) (table Y) nt tb)
 
-    pub narrow_r : (nt : List ℕ) → build_told (built.Built w s r) ≡ narrow_tells (words_under m d) tb nt
+    pub narrow_r : (nt : List ℕ) → build_told (Ok (record { words = w; states = s; longest = r })) ≡ narrow_tells (words_under m d) tb nt
         → (r ≤ 1) ↔ NoneIs (Under ProperSuffix m) raw
     narrow_r nt = told_r (λ Y. move_refusal (table Y) (narrow_table Y) tb nt)
 
@@ -110,7 +107,7 @@ module _ (m d : List ℕ) (bytes : (x : ℕ) → letter m x < letter_values) {X 
 
       -- where next is not refused
       ended : (b : List ℕ) (k : ℕ) → next_refusal X tb t ss cs b k ≡ 0
-          → (next_tells run tb t ss cs b k ≡ next_told next.End) × (next_leaves run tb t ss cs b k ≡ b)
+          → (next_tells run tb t ss cs b k ≡ next_told (Ok None)) × (next_leaves run tb t ss cs b k ≡ b)
       ended b k clear =
           let w : Came (λ Y. next_refusal Y tb t ss cs b k) run X 0 = record { end = end; is = is; comes = clear } in
           let rest = none_second (list_refusal X tb t ss cs) (given_refusal X t b k and_then fit_refusal (next_reading X t (take k b)) b) clear in
@@ -121,7 +118,7 @@ module _ (m d : List ℕ) (bytes : (x : ℕ) → letter m x < letter_values) {X 
           )
 
       -- the scan: every count is 0 or 1, and that of the text 1 exactly where it is accepted
-      module _ (verdict : Bool) (f c p : ℕ) (e : scan_told (scan.Scanned verdict f c p) ≡ scan_tells run tb t ss cs) where
+      module _ (verdict : Bool) (f c p : ℕ) (e : scan_told (Ok (record { accepted = verdict; farthest = f; count = c; probes = p })) ≡ scan_tells run tb t ss cs) where
         clear : scan_refusal X tb t ss cs ≡ 0
         clear = tells_clear (λ Y. scan_refusal Y tb t ss cs) _ is (ap (λ (a : Told). a.number) (sym e))
 
@@ -157,7 +154,7 @@ module _ (m d : List ℕ) (bytes : (x : ℕ) → letter m x < letter_values) {X 
 
         -- next, given that reading, is not refused: it tells End, and leaves the buffer as it was
         pub next_end : (b : List ℕ) (k : ℕ) → k ≤ length b → ReadsUnder m raw u (take k b)
-            → (next_tells run tb t ss cs b k ≡ next_told next.End) × (next_leaves run tb t ss cs b k ≡ b)
+            → (next_tells run tb t ss cs b k ≡ next_told (Ok None)) × (next_leaves run tb t ss cs b k ≡ b)
         next_end b k h r =
             let reading = (reads m d bytes is u (take k b)).1 r in
             let fits = ap (λ (o : Option Reading). fit_refusal o b) (none_after X words one t (take k b) reading) in
@@ -170,16 +167,16 @@ module _ (m d : List ℕ) (bytes : (x : ℕ) → letter m x < letter_values) {X 
             past_refused is allowed tb t ss cs counted b n (omega (arith, at_most_one X words one t))
 
       -- whatever next answers that is no refusal is End, and leaves the buffer as it was
-      pub next_only_ends : (b : List ℕ) (k : ℕ) (a : NextAnswer) (after : List ℕ)
+      pub next_only_ends : (b : List ℕ) (k : ℕ) (a : Result (Maybe ℕ) Refusal) (after : List ℕ)
           → (next_told a ≡ next_tells run tb t ss cs b k) × (after ≡ next_leaves run tb t ss cs b k) → (next_told a).number ≡ 0
-          → (a ≡ next.End) × (after ≡ b)
+          → (a ≡ Ok None) × (after ≡ b)
       next_only_ends b k a after allows z =
           let clear = tells_clear (λ Y. next_refusal Y tb t ss cs b k) _ is (ap (λ (q : Told). q.number) (sym allows.0) ∙ z) in
           let (told, left) = ended b k clear in
-          next_decides run tb t ss cs b k a next.End after b allows (sym told, sym left)
+          next_decides run tb t ss cs b k a (Ok None) after b allows (sym told, sym left)
 
       -- the only number that place tells is 0
-      pub place_zero : (b : List ℕ) (k n : ℕ) → place_told (place.At n) ≡ place_tells run tb t ss cs b k → n ≡ 0
+      pub place_zero : (b : List ℕ) (k n : ℕ) → place_told (Ok n) ≡ place_tells run tb t ss cs b k → n ≡ 0
       place_zero b k n e =
           let (z, v) = tells_answer (λ Y. place_refusal Y tb t ss cs b k) (λ Y. number_of (find (readings Y t) (take k b))) is (sym e) in
           let (below, at) = at_number X t n (take k b) (number_found (find (readings X t) (take k b)) v) in
@@ -202,7 +199,7 @@ words-reverse m (v ∷ Y) = ap₂ ◌∷◌ (mapped-reverse m v) (words-reverse 
 -- proper prefix of another
 pub backwards_r : (m d e : List ℕ) (bytes : (x : ℕ) → letter m x < letter_values) {X Y : Words} {end last : ℕ}
     (is : words_under m d ≡ ran X end) (back : words_under m e ≡ ran Y last) → W m e bytes back ≡ map reverse (W m d bytes is)
-    → (tb : List ℕ) (w s r : ℕ) → build_told (built.Built w s r) ≡ build_tells (words_under m e) tb
+    → (tb : List ℕ) (w s r : ℕ) → build_told (Ok (record { words = w; states = s; longest = r })) ≡ build_tells (words_under m e) tb
     → (r ≤ 1) ↔ NoneIs (Under ProperPrefix m) (W m d bytes is)
 backwards_r m d e bytes {X} {Y} is back q tb w s r told =
     let reversed : Y ≡ map reverse X

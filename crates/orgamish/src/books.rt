@@ -6,28 +6,25 @@ ghost use Rattle.judging.specs.Under.{book_under};
 ghost use Rattle.orgamish.specs.Calls.{check_tells};
 ghost use Rattle.orgamish.specs.Answers.{book_told};
 
-use crate::answers::{BlockPart, BookAnswer};
+use crate::answers::Checked;
 use judging::is_map;
-use records::{Book, block as block_text, block_part as part_of_book, check_book as check_records};
+use letters::{Reason, Refusal};
+use records::{
+    BlockPart, block as block_text, block_part as part_of_book, check_book as check_records,
+};
 
 // How many words and blocks a book has.
-pub fn check_book(map: &[u8], book: &[u8]) -> BookAnswer
+pub fn check_book(map: &[u8], book: &[u8]) -> Result<Checked, Refusal>
     ensures { book_told result ≡ check_tells (book_under map.now book.now) }
 {
     if !is_map(map) {
-        return BookAnswer::Refused {
-            number: 18,
-            place: 0,
-        };
+        return Err(Refusal::from(Reason::BadMap));
     }
-    match check_records(map, book) {
-        Book::Refused { number, place } => BookAnswer::Refused { number, place },
-        Book::Blocks {
-            words,
-            blocks,
-            start: _,
-        } => BookAnswer::Blocks { words, blocks },
-    }
+    let found = check_records(map, book)?;
+    Ok(Checked {
+        words: found.words,
+        blocks: found.blocks,
+    })
 }
 
 // The text of block n, a part of the book; an empty part where map or book is refused or has no such block.
@@ -48,9 +45,5 @@ pub fn block_part(map: &[u8], book: &[u8], n: usize) -> BlockPart
     if !is_map(map) {
         return BlockPart { start: 0, len: 0 };
     }
-    let part = part_of_book(map, book, n);
-    BlockPart {
-        start: part.start,
-        len: part.len,
-    }
+    part_of_book(map, book, n)
 }

@@ -8,13 +8,12 @@ mod numbers;
 mod scans;
 mod tables;
 
-pub use answers::{
-    BlockPart, BookAnswer, BuildAnswer, FirstAnswer, NextAnswer, PlaceAnswer, ScanAnswer,
-};
+pub use answers::{Built, Checked, Scanned};
 pub use books::{block, block_part, check_book};
-pub use letters::identity;
+pub use letters::{Reason, Refusal, identity};
 pub use lists::{first, next};
 pub use numbers::{jump, place};
+pub use records::BlockPart;
 pub use scans::scan;
 pub use tables::{build, narrow, widen};
 pub use tree::MOST_NUMBERS;

@@ -8,9 +8,9 @@ ghost use Rattle.judging.specs.Order.{is_given};
 ghost use Rattle.orgamish.specs.Calls.{first_tells, first_leaves, next_tells, next_leaves};
 ghost use Rattle.orgamish.specs.Answers.{first_told, next_told};
 
-use crate::answers::{FirstAnswer, NextAnswer};
-use judging::{Verdict, judge_list};
-use listing::{Listed, first as first_reading, is_reading, next as next_reading};
+use judging::judge_list;
+use letters::{Reason, Refusal};
+use listing::{first as first_reading, is_reading, next as next_reading};
 
 // The first reading is written to the first entries of a lent buffer.
 pub fn first(
@@ -21,25 +21,14 @@ pub fn first(
     states: &[u16],
     counts: &[u64],
     reading: &mut [u16],
-) -> FirstAnswer
+) -> Result<u16, Refusal>
     ensures { (first_told result ≡ first_tells (words_under map.now dict.now) table.now (mapped map.now text.now) states.now counts.now reading.old)
         × (reading.new ≡ first_leaves (words_under map.now dict.now) table.now (mapped map.now text.now) states.now counts.now reading.old) }
 {
-    match judge_list(map, dict, table, text, states, counts) {
-        Verdict::Refused { number, place } => FirstAnswer::Refused { number, place },
-        Verdict::Passed => match first_reading(table, states, counts, text.len(), reading) {
-            Listed::Nothing => FirstAnswer::Refused {
-                number: 12,
-                place: 0,
-            },
-            Listed::Short => FirstAnswer::Refused {
-                number: 14,
-                place: 0,
-            },
-            Listed::Words(words) => FirstAnswer::Words {
-                words: words as u16,
-            },
-        },
+    judge_list(map, dict, table, text, states, counts)?;
+    match first_reading(table, states, counts, text.len(), reading)? {
+        Some(words) => Ok(words as u16),
+        None => Err(Refusal::from(Reason::NoReading)),
     }
 }
 
@@ -64,29 +53,16 @@ pub fn next(
     counts: &[u64],
     reading: &mut [u16],
     given: usize,
-) -> NextAnswer
+) -> Result<Option<u16>, Refusal>
     ensures { (next_told result ≡ next_tells (words_under map.now dict.now) table.now (mapped map.now text.now) states.now counts.now reading.old given)
         × (reading.new ≡ next_leaves (words_under map.now dict.now) table.now (mapped map.now text.now) states.now counts.now reading.old given) }
 {
-    match judge_list(map, dict, table, text, states, counts) {
-        Verdict::Refused { number, place } => NextAnswer::Refused { number, place },
-        Verdict::Passed => {
-            if !is_given(table, states, text.len(), reading, given) {
-                return NextAnswer::Refused {
-                    number: 13,
-                    place: 0,
-                };
-            }
-            match next_reading(table, states, counts, text.len(), reading, given) {
-                Listed::Nothing => NextAnswer::End,
-                Listed::Short => NextAnswer::Refused {
-                    number: 14,
-                    place: 0,
-                },
-                Listed::Words(words) => NextAnswer::Words {
-                    words: words as u16,
-                },
-            }
-        }
+    judge_list(map, dict, table, text, states, counts)?;
+    if !is_given(table, states, text.len(), reading, given) {
+        return Err(Refusal::from(Reason::NotReading));
+    }
+    match next_reading(table, states, counts, text.len(), reading, given)? {
+        Some(words) => Ok(Some(words as u16)),
+        None => Ok(None),
     }
 }

@@ -5,10 +5,9 @@ ghost use Rattle.judging.specs.Under.{words_under};
 ghost use Rattle.orgamish.specs.Calls.{jump_tells, jump_leaves, place_tells};
 ghost use Rattle.orgamish.specs.Answers.{first_told, place_told};
 
-use crate::answers::{FirstAnswer, PlaceAnswer};
-use judging::{Verdict, judge_count};
-use listing::Listed;
-use numbering::{Placed, jump as numbered_reading, place as number_of};
+use judging::judge_count;
+use letters::{Reason, Refusal};
+use numbering::{jump as numbered_reading, place as number_of};
 
 // Reading n is written to the first entries of a lent buffer.
 pub fn jump(
@@ -20,25 +19,14 @@ pub fn jump(
     counts: &[u64],
     reading: &mut [u16],
     n: u64,
-) -> FirstAnswer
+) -> Result<u16, Refusal>
     ensures { (first_told result ≡ jump_tells (words_under map.now dict.now) table.now (mapped map.now text.now) states.now counts.now reading.old n)
         × (reading.new ≡ jump_leaves (words_under map.now dict.now) table.now (mapped map.now text.now) states.now counts.now reading.old n) }
 {
-    match judge_count(map, dict, table, text, states, counts) {
-        Verdict::Refused { number, place } => FirstAnswer::Refused { number, place },
-        Verdict::Passed => match numbered_reading(table, states, counts, text.len(), reading, n) {
-            Listed::Nothing => FirstAnswer::Refused {
-                number: 21,
-                place: 0,
-            },
-            Listed::Short => FirstAnswer::Refused {
-                number: 14,
-                place: 0,
-            },
-            Listed::Words(words) => FirstAnswer::Words {
-                words: words as u16,
-            },
-        },
+    judge_count(map, dict, table, text, states, counts)?;
+    match numbered_reading(table, states, counts, text.len(), reading, n)? {
+        Some(words) => Ok(words as u16),
+        None => Err(Refusal::from(Reason::NoNumber)),
     }
 }
 
@@ -52,25 +40,15 @@ pub fn place(
     counts: &[u64],
     reading: &[u16],
     given: usize,
-) -> PlaceAnswer
+) -> Result<u64, Refusal>
     ensures { place_told result ≡ place_tells (words_under map.now dict.now) table.now (mapped map.now text.now) states.now counts.now reading.now given }
 {
-    match judge_count(map, dict, table, text, states, counts) {
-        Verdict::Refused { number, place } => PlaceAnswer::Refused { number, place },
-        Verdict::Passed => {
-            if reading.len() < given {
-                return PlaceAnswer::Refused {
-                    number: 13,
-                    place: 0,
-                };
-            }
-            match number_of(table, states, counts, text.len(), reading, given) {
-                Placed::Nowhere => PlaceAnswer::Refused {
-                    number: 13,
-                    place: 0,
-                },
-                Placed::At(n) => PlaceAnswer::At { n },
-            }
-        }
+    judge_count(map, dict, table, text, states, counts)?;
+    if reading.len() < given {
+        return Err(Refusal::from(Reason::NotReading));
+    }
+    match number_of(table, states, counts, text.len(), reading, given) {
+        Some(n) => Ok(n),
+        None => Err(Refusal::from(Reason::NotReading)),
     }
 }

@@ -5,35 +5,24 @@ ghost use Rattle.judging.specs.Under.{words_under};
 ghost use Rattle.orgamish.specs.Calls.{write_tells, write_leaves, move_tells, move_leaves, build_tells, build_leaves, widen_tells, widen_leaves, narrow_tells, narrow_leaves};
 ghost use Rattle.orgamish.specs.Answers.{build_told};
 
-use crate::answers::BuildAnswer;
-use automaton::{Wrote, write_table};
-use judging::{Verdict, check_words, judge_rows};
-use records::Dictionary;
+use crate::answers::Built;
+use automaton::write_table;
+use judging::{check_words, judge_rows};
+use letters::Refusal;
 use tree::Form;
 
 // The table that a dictionary gives is written in either form.
-fn build_in(map: &[u8], dict: &[u8], form: Form, table: &mut [u16]) -> BuildAnswer
+fn build_in(map: &[u8], dict: &[u8], form: Form, table: &mut [u16]) -> Result<Built, Refusal>
     ensures { (build_told result ≡ write_tells (table_in form) (words_under map.now dict.now) table.old)
         × (table.new ≡ write_leaves (table_in form) (words_under map.now dict.now) table.old) }
 {
-    match check_words(map, dict) {
-        Dictionary::Refused { number, place } => BuildAnswer::Refused { number, place },
-        Dictionary::Words {
-            words,
-            letters: _,
-            end: _,
-        } => match write_table(map, dict, words as usize, form, table) {
-            Wrote::Short => BuildAnswer::Refused {
-                number: 7,
-                place: 0,
-            },
-            Wrote::Rows { states, longest } => BuildAnswer::Built {
-                words,
-                states: states as u16,
-                longest: longest as u16,
-            },
-        },
-    }
+    let words = check_words(map, dict)?.words;
+    let written = write_table(map, dict, usize::from(words), form, table)?;
+    Ok(Built {
+        words,
+        states: written.states as u16,
+        longest: written.longest as u16,
+    })
 }
 
 // The input, in its form, is judged first; then its table is written in the other.
@@ -44,18 +33,16 @@ fn move_in(
     input: &[u16],
     form: Form,
     table: &mut [u16],
-) -> BuildAnswer
+) -> Result<Built, Refusal>
     ensures { (build_told result ≡ move_tells (table_in form) (words_under map.now dict.now) table.old (table_in other) input.now)
         × (table.new ≡ move_leaves (table_in form) (words_under map.now dict.now) table.old (table_in other) input.now) }
 {
-    match judge_rows(map, dict, other, input) {
-        Verdict::Refused { number, place } => BuildAnswer::Refused { number, place },
-        Verdict::Passed => build_in(map, dict, form, table),
-    }
+    judge_rows(map, dict, other, input)?;
+    build_in(map, dict, form, table)
 }
 
 // The table that a dictionary gives is written to the first numbers of a lent one.
-pub fn build(map: &[u8], dict: &[u8], table: &mut [u16]) -> BuildAnswer
+pub fn build(map: &[u8], dict: &[u8], table: &mut [u16]) -> Result<Built, Refusal>
     ensures { (build_told result ≡ build_tells (words_under map.now dict.now) table.old)
         × (table.new ≡ build_leaves (words_under map.now dict.now) table.old) }
 {
@@ -63,7 +50,7 @@ pub fn build(map: &[u8], dict: &[u8], table: &mut [u16]) -> BuildAnswer
 }
 
 // A table stored with seven numbers a row is written with eight.
-pub fn widen(map: &[u8], dict: &[u8], narrow: &[u16], table: &mut [u16]) -> BuildAnswer
+pub fn widen(map: &[u8], dict: &[u8], narrow: &[u16], table: &mut [u16]) -> Result<Built, Refusal>
     ensures { (build_told result ≡ widen_tells (words_under map.now dict.now) table.old narrow.now)
         × (table.new ≡ widen_leaves (words_under map.now dict.now) table.old narrow.now) }
 {
@@ -71,7 +58,7 @@ pub fn widen(map: &[u8], dict: &[u8], narrow: &[u16], table: &mut [u16]) -> Buil
 }
 
 // .. and one of eight with seven.
-pub fn narrow(map: &[u8], dict: &[u8], table: &[u16], narrow: &mut [u16]) -> BuildAnswer
+pub fn narrow(map: &[u8], dict: &[u8], table: &[u16], narrow: &mut [u16]) -> Result<Built, Refusal>
     ensures { (build_told result ≡ narrow_tells (words_under map.now dict.now) table.now narrow.old)
         × (narrow.new ≡ narrow_leaves (words_under map.now dict.now) table.now narrow.old) }
 {

@@ -1,30 +1,27 @@
 // Books.
-ghost use Rattle.std.specs.Prelude.{◌≡◌, get_or};
+ghost use Rattle.std.specs.Prelude.{◌≡◌, [], ◌∷◌, get_or};
 ghost use Rattle.meaning.specs.Words.{word as text_of};
 ghost use Rattle.letters.specs.Letters.{part, identity as identity_of};
 ghost use Rattle.records.specs.Book.{texts_of};
 ghost use Rattle.judging.specs.Under.{book_under};
 ghost use Rattle.orgamish.specs.Calls.{check_tells, block_tells};
-ghost use Rattle.orgamish.specs.Answers.{book_told};
 ghost use Rattle.orgamish_c.specs.Told.{Passed};
 
-use crate::told::{TOLD, answer, refuse};
-use orgamish::{BookAnswer, block_part, check_book, identity};
+use crate::told::{TOLD, pass};
+use orgamish::{Checked, block_part, check_book, identity};
 
-fn pass(checked: BookAnswer, told: &mut [u64; TOLD]) -> u16
-    ensures { Passed (book_told checked) result told.new }
+// What the book check tells.
+fn sizes(checked: Checked) -> [u64; 4]
+    ensures { result ≡ checked.words ∷ checked.blocks ∷ 0 ∷ 0 ∷ [] }
 {
-    match checked {
-        BookAnswer::Refused { number, place } => refuse(told, number, place),
-        BookAnswer::Blocks { words, blocks } => answer(told, words as u64, blocks as u64, 0, 0),
-    }
+    [u64::from(checked.words), u64::from(checked.blocks), 0, 0]
 }
 
 #[unsafe(no_mangle)]
 pub extern "C" fn orgamish_check_book(map: &[u8], book: &[u8], told: &mut [u64; TOLD]) -> u16
     ensures { Passed (check_tells (book_under map.now book.now)) result told.new }
 {
-    pass(check_book(map, book), told)
+    pass(told, check_book(map, book).map(sizes))
 }
 
 // The bytes there are the block's text.
@@ -34,7 +31,7 @@ pub extern "C" fn orgamish_block(map: &[u8], book: &[u8], n: usize, told: &mut [
         × (part book.now (get_or told.new 1 0) (get_or told.new 2 0) ≡ text_of (texts_of (book_under map.now book.now)) n) }
 {
     let part = block_part(map, book, n);
-    answer(told, part.start as u64, part.len as u64, 0, 0)
+    pass(told, Ok([part.start as u64, part.len as u64, 0, 0]))
 }
 
 #[unsafe(no_mangle)]

@@ -1,31 +1,27 @@
 // First and next.
-ghost use Rattle.std.specs.Prelude.{◌≡◌};
+ghost use Rattle.std.specs.Prelude.{◌≡◌, [], ◌∷◌};
 ghost use Rattle.letters.specs.Letters.{mapped};
 ghost use Rattle.judging.specs.Under.{words_under};
 ghost use Rattle.orgamish.specs.Calls.{first_tells, first_leaves, next_tells, next_leaves};
-ghost use Rattle.orgamish.specs.Answers.{first_told, next_told};
-ghost use Rattle.orgamish_c.specs.Told.{Passed};
+ghost use Rattle.orgamish_c.specs.Told.{Passed, filled, listed};
 
-use crate::told::{TOLD, answer, refuse};
-use orgamish::{FirstAnswer, NextAnswer, first, next};
+use crate::told::{TOLD, pass};
+use orgamish::{first, next};
 
-// Of first and of jump.
-pub fn pass_first(written: FirstAnswer, told: &mut [u64; TOLD]) -> u16
-    ensures { Passed (first_told written) result told.new }
+// A reading of so many words. Of first and of jump.
+pub fn written(words: u16) -> [u64; 4]
+    ensures { result ≡ 1 ∷ words ∷ 0 ∷ 0 ∷ [] }
 {
-    match written {
-        FirstAnswer::Refused { number, place } => refuse(told, number, place),
-        FirstAnswer::Words { words } => answer(told, 1, words as u64, 0, 0),
-    }
+    [1, u64::from(words), 0, 0]
 }
 
-fn pass_next(written: NextAnswer, told: &mut [u64; TOLD]) -> u16
-    ensures { Passed (next_told written) result told.new }
+// What next tells: none, or one reading of so many words.
+fn listed(words: Option<u16>) -> [u64; 4]
+    ensures { result ≡ filled 4 (listed words) }
 {
-    match written {
-        NextAnswer::Refused { number, place } => refuse(told, number, place),
-        NextAnswer::End => answer(told, 0, 0, 0, 0),
-        NextAnswer::Words { words } => answer(told, 1, words as u64, 0, 0),
+    match words {
+        None => [0, 0, 0, 0],
+        Some(words) => written(words),
     }
 }
 
@@ -43,7 +39,8 @@ pub extern "C" fn orgamish_first(
     ensures { Passed (first_tells (words_under map.now dict.now) table.now (mapped map.now text.now) states.now counts.now reading.old) result told.new
         × (reading.new ≡ first_leaves (words_under map.now dict.now) table.now (mapped map.now text.now) states.now counts.now reading.old) }
 {
-    pass_first(first(map, dict, table, text, states, counts, reading), told)
+    let outcome = first(map, dict, table, text, states, counts, reading);
+    pass(told, outcome.map(written))
 }
 
 #[unsafe(no_mangle)]
@@ -61,8 +58,6 @@ pub extern "C" fn orgamish_next(
     ensures { Passed (next_tells (words_under map.now dict.now) table.now (mapped map.now text.now) states.now counts.now reading.old given) result told.new
         × (reading.new ≡ next_leaves (words_under map.now dict.now) table.now (mapped map.now text.now) states.now counts.now reading.old given) }
 {
-    pass_next(
-        next(map, dict, table, text, states, counts, reading, given),
-        told,
-    )
+    let outcome = next(map, dict, table, text, states, counts, reading, given);
+    pass(told, outcome.map(listed))
 }

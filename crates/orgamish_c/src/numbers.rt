@@ -1,22 +1,19 @@
 // Jump and place.
-ghost use Rattle.std.specs.Prelude.{◌≡◌};
+ghost use Rattle.std.specs.Prelude.{◌≡◌, [], ◌∷◌};
 ghost use Rattle.letters.specs.Letters.{mapped};
 ghost use Rattle.judging.specs.Under.{words_under};
 ghost use Rattle.orgamish.specs.Calls.{jump_tells, jump_leaves, place_tells};
-ghost use Rattle.orgamish.specs.Answers.{place_told};
 ghost use Rattle.orgamish_c.specs.Told.{Passed};
 
-use crate::lists::pass_first;
-use crate::told::{TOLD, answer, refuse};
-use orgamish::{PlaceAnswer, jump, place as place_of};
+use crate::lists::written;
+use crate::told::{TOLD, pass};
+use orgamish::{jump, place};
 
-fn pass(placed: PlaceAnswer, told: &mut [u64; TOLD]) -> u16
-    ensures { Passed (place_told placed) result told.new }
+// A reading's number.
+fn number(n: u64) -> [u64; 4]
+    ensures { result ≡ n ∷ 0 ∷ 0 ∷ 0 ∷ [] }
 {
-    match placed {
-        PlaceAnswer::Refused { number, place } => refuse(told, number, place),
-        PlaceAnswer::At { n } => answer(told, n, 0, 0, 0),
-    }
+    [n, 0, 0, 0]
 }
 
 #[unsafe(no_mangle)]
@@ -34,10 +31,8 @@ pub extern "C" fn orgamish_jump(
     ensures { Passed (jump_tells (words_under map.now dict.now) table.now (mapped map.now text.now) states.now counts.now reading.old n) result told.new
         × (reading.new ≡ jump_leaves (words_under map.now dict.now) table.now (mapped map.now text.now) states.now counts.now reading.old n) }
 {
-    pass_first(
-        jump(map, dict, table, text, states, counts, reading, n),
-        told,
-    )
+    let outcome = jump(map, dict, table, text, states, counts, reading, n);
+    pass(told, outcome.map(written))
 }
 
 #[unsafe(no_mangle)]
@@ -54,8 +49,6 @@ pub extern "C" fn orgamish_place(
 ) -> u16
     ensures { Passed (place_tells (words_under map.now dict.now) table.now (mapped map.now text.now) states.now counts.now reading.now given) result told.new }
 {
-    pass(
-        place_of(map, dict, table, text, states, counts, reading, given),
-        told,
-    )
+    let outcome = place(map, dict, table, text, states, counts, reading, given);
+    pass(told, outcome.map(number))
 }

@@ -1,26 +1,23 @@
 // The scan.
-ghost use Rattle.std.specs.Prelude.{◌≡◌};
+ghost use Rattle.std.specs.Prelude.{◌≡◌, [], ◌∷◌};
 ghost use Rattle.letters.specs.Letters.{mapped};
 ghost use Rattle.judging.specs.Under.{words_under};
-ghost use Rattle.orgamish.specs.Calls.{scan_tells, scan_leaves_states, scan_leaves_counts};
-ghost use Rattle.orgamish.specs.Answers.{scan_told};
+ghost use Rattle.orgamish.specs.Calls.{flag, scan_tells, scan_leaves_states, scan_leaves_counts};
 ghost use Rattle.orgamish_c.specs.Told.{Passed};
 
-use crate::told::{TOLD, answer, refuse};
-use orgamish::{ScanAnswer, scan};
+use crate::told::{TOLD, pass};
+use orgamish::{Scanned, scan};
 
-fn pass(scanned: ScanAnswer, told: &mut [u64; TOLD]) -> u16
-    ensures { Passed (scan_told scanned) result told.new }
+// What the scan tells.
+fn findings(scanned: Scanned) -> [u64; 4]
+    ensures { result ≡ flag scanned.accepted ∷ scanned.farthest ∷ scanned.count ∷ scanned.probes ∷ [] }
 {
-    match scanned {
-        ScanAnswer::Refused { number, place } => refuse(told, number, place),
-        ScanAnswer::Scanned {
-            accepted,
-            farthest,
-            count,
-            probes,
-        } => answer(told, accepted as u64, farthest as u64, count, probes as u64),
-    }
+    [
+        u64::from(scanned.accepted),
+        u64::from(scanned.farthest),
+        scanned.count,
+        u64::from(scanned.probes),
+    ]
 }
 
 #[unsafe(no_mangle)]
@@ -37,5 +34,6 @@ pub extern "C" fn orgamish_scan(
         × (states.new ≡ scan_leaves_states (words_under map.now dict.now) table.now (mapped map.now text.now) states.old counts.old)
         × (counts.new ≡ scan_leaves_counts (words_under map.now dict.now) table.now (mapped map.now text.now) states.old counts.old) }
 {
-    pass(scan(map, dict, table, text, states, counts), told)
+    let scanned = scan(map, dict, table, text, states, counts);
+    pass(told, scanned.map(findings))
 }

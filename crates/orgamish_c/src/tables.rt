@@ -1,24 +1,22 @@
 // Tables.
-ghost use Rattle.std.specs.Prelude.{◌≡◌};
+ghost use Rattle.std.specs.Prelude.{◌≡◌, [], ◌∷◌};
 ghost use Rattle.judging.specs.Under.{words_under};
 ghost use Rattle.orgamish.specs.Calls.{build_tells, build_leaves, widen_tells, widen_leaves, narrow_tells, narrow_leaves};
-ghost use Rattle.orgamish.specs.Answers.{build_told};
 ghost use Rattle.orgamish_c.specs.Told.{Passed};
 
-use crate::told::{TOLD, answer, refuse};
-use orgamish::{BuildAnswer, build, narrow as narrow_table, widen};
+use crate::told::{TOLD, pass};
+use orgamish::{Built, build, narrow as narrow_table, widen};
 
-fn pass(built: BuildAnswer, told: &mut [u64; TOLD]) -> u16
-    ensures { Passed (build_told built) result told.new }
+// What build, widen and narrow tell.
+fn measures(built: Built) -> [u64; 4]
+    ensures { result ≡ built.words ∷ built.states ∷ built.longest ∷ 0 ∷ [] }
 {
-    match built {
-        BuildAnswer::Refused { number, place } => refuse(told, number, place),
-        BuildAnswer::Built {
-            words,
-            states,
-            longest,
-        } => answer(told, words as u64, states as u64, longest as u64, 0),
-    }
+    [
+        u64::from(built.words),
+        u64::from(built.states),
+        u64::from(built.longest),
+        0,
+    ]
 }
 
 #[unsafe(no_mangle)]
@@ -31,7 +29,7 @@ pub extern "C" fn orgamish_build(
     ensures { Passed (build_tells (words_under map.now dict.now) table.old) result told.new
         × (table.new ≡ build_leaves (words_under map.now dict.now) table.old) }
 {
-    pass(build(map, dict, table), told)
+    pass(told, build(map, dict, table).map(measures))
 }
 
 #[unsafe(no_mangle)]
@@ -45,7 +43,7 @@ pub extern "C" fn orgamish_widen(
     ensures { Passed (widen_tells (words_under map.now dict.now) table.old narrow.now) result told.new
         × (table.new ≡ widen_leaves (words_under map.now dict.now) table.old narrow.now) }
 {
-    pass(widen(map, dict, narrow, table), told)
+    pass(told, widen(map, dict, narrow, table).map(measures))
 }
 
 #[unsafe(no_mangle)]
@@ -59,5 +57,5 @@ pub extern "C" fn orgamish_narrow(
     ensures { Passed (narrow_tells (words_under map.now dict.now) table.now narrow.old) result told.new
         × (narrow.new ≡ narrow_leaves (words_under map.now dict.now) table.now narrow.old) }
 {
-    pass(narrow_table(map, dict, table, narrow), told)
+    pass(told, narrow_table(map, dict, table, narrow).map(measures))
 }

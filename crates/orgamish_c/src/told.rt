@@ -1,22 +1,23 @@
 // The five lent numbers: the place, and four values.
-ghost use Rattle.std.specs.Prelude.{[], ◌∷◌};
-ghost use Rattle.records.specs.Told.{refusal, answer as answered};
-ghost use Rattle.orgamish_c.specs.Told.{Passed};
+ghost use Rattle.orgamish_c.specs.Told.{Passed, values_told};
+
+use orgamish::Refusal;
 
 // How many numbers are lent.
 pub const TOLD: usize = 5;
 
-// An answer is no refusal.
-pub fn answer(told: &mut [u64; TOLD], a: u64, b: u64, c: u64, d: u64) -> u16
-    ensures { Passed (answered (a ∷ b ∷ c ∷ d ∷ [])) result told.new }
+// The values that a call tells, and the result 0; or the place of its refusal, and the result its number.
+pub fn pass(told: &mut [u64; TOLD], outcome: Result<[u64; 4], Refusal>) -> u16
+    ensures { Passed (values_told outcome) result told.new }
 {
-    *told = [0, a, b, c, d];
-    0
-}
-
-pub fn refuse(told: &mut [u64; TOLD], number: u16, place: u16) -> u16
-    ensures { Passed (refusal number place) result told.new }
-{
-    *told = [place as u64, 0, 0, 0, 0];
-    number
+    match outcome {
+        Ok(values) => {
+            *told = [0, values[0], values[1], values[2], values[3]];
+            0
+        }
+        Err(refusal) => {
+            *told = [u64::from(refusal.place), 0, 0, 0, 0];
+            refusal.reason.number()
+        }
+    }
 }

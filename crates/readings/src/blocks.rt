@@ -2,15 +2,15 @@
 ghost use Rattle.std.specs.Prelude.{◌≤◌, length};
 ghost use Rattle.meaning.specs.Numbers.{most_words, longest_book};
 
-use super::lines::{print_block_line, print_refusal, print_totals};
-use letters::{BlockRecord, block_at};
-use orgamish::{ScanAnswer, scan};
-use std::io;
+use super::stop::Stop;
+use letters::{Refusal, block_at};
+use orgamish::scan;
+use records::Dictionary;
 
 // One for each position of the longest text, its start and end included.
 const POSITIONS: usize = 4097;
 
-// Prints the line of block n, or a refusal. Tells whether the text was scanned.
+// Prints the line of block n.
 fn print_block(
     rt: &impl Print,
     n: u16,
@@ -18,55 +18,46 @@ fn print_block(
     dict: &[u8],
     table: &[u16],
     text: &[u8],
-) -> io::Result<bool> {
-    let mut states = [0u16; POSITIONS];
-    let mut counts = [0u64; POSITIONS];
-    match scan(map, dict, table, text, &mut states, &mut counts) {
-        ScanAnswer::Refused { number, place } => {
-            print_refusal(rt, number, place)?;
-            Ok(false)
-        }
-        ScanAnswer::Scanned {
-            accepted,
-            farthest,
-            count,
-            probes,
-        } => {
-            print_block_line(rt, n, accepted, farthest, count, probes)?;
-            Ok(true)
-        }
-    }
+) -> Result<(), Stop> {
+    let mut states = [0; POSITIONS];
+    let mut counts = [0; POSITIONS];
+    let found = scan(map, dict, table, text, &mut states, &mut counts)?;
+    let verdict = if found.accepted { "yes" } else { "no" };
+    println!(rt;
+        "block {n} {verdict} {} {} {}",
+        found.farthest, found.count, found.probes
+    )?;
+    Ok(())
 }
 
-// The lines of the block records from an offset on, where the dictionary of so many words ends.
+// The lines of the block records, which stand where the words end.
 pub fn print_blocks(
     rt: &impl Print,
     map: &[u8],
     book: &[u8],
-    start: usize,
-    words: u16,
+    words: Dictionary,
     table: &[u16],
-) -> io::Result<()>
-    requires { (start ≤ length book.now) × (length book.now ≤ longest_book) × (words ≤ most_words) }
+) -> Result<(), Stop>
+    requires { (words.end ≤ length book.now) × (length book.now ≤ longest_book) × (words.words ≤ most_words) }
 {
+    let start = usize::from(words.end);
     let mut blocks: u16 = 0;
     let mut at = start;
     loop {
         match block_at(book, at) {
-            BlockRecord::End => {
-                return print_totals(rt, blocks, words);
-            }
-            BlockRecord::Bad { number } => {
-                return print_refusal(rt, number, words + blocks);
-            }
-            BlockRecord::Text { len } => {
+            Ok(Some(len)) => {
                 let from = at + 4;
-                let to = from + len;
-                if !print_block(rt, blocks, map, &book[..start], table, &book[from..to])? {
-                    return Ok(());
-                }
-                blocks = blocks + 1;
-                at = to;
+                at = from + len;
+                print_block(rt, blocks, map, &book[..start], table, &book[from..at])?;
+                blocks += 1;
+            }
+            Ok(None) => {
+                println!(rt; "blocks {blocks} words {}", words.words)?;
+                return Ok(());
+            }
+            Err(reason) => {
+                let place = words.words + blocks;
+                return Err(Stop::Refused(Refusal { reason, place }));
             }
         }
     }

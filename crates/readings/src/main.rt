@@ -1,8 +1,8 @@
-// Reads a book from standard input and prints the verdict on each of its blocks.
+// Reads a book from standard input and prints the verdict on each of its blocks, up to what is refused.
 #![tactic(auto)]
 
 mod blocks;
-mod lines;
+mod stop;
 mod words;
 
 ghost use Rattle.std.specs.Prelude.{◌<◌, ◌≤◌, length, take, IfOk};
@@ -10,6 +10,7 @@ ghost use Rattle.std.specs.Io.KnownBytes.{Consumes, IsAtEnd};
 
 use std::io;
 use std::io::Read;
+use stop::Stop;
 use words::print_book;
 
 // One byte more than a book may have, so that a longer book is seen to be one.
@@ -36,5 +37,9 @@ fn read_full<R: Read>(input: &mut R, buf: &mut [u8]) -> io::Result<usize>
 fn main(rt: HostRuntime) -> io::Result<()> {
     let mut bytes = [0u8; ROOM];
     let n = read_full(&mut rt.stdin(), &mut bytes)?;
-    print_book(&rt, &bytes[..n])
+    match print_book(&rt, &bytes[..n]) {
+        Ok(()) => Ok(()),
+        Err(Stop::NotPrinted(error)) => Err(error),
+        Err(refused) => println!(rt; "{refused}"),
+    }
 }

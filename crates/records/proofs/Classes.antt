@@ -1,17 +1,17 @@
 -- Classes of words, and the last word of a class.
-use mathlib.Core.Path.{◌≡◌, refl}
+use mathlib.Core.Path.{◌≡◌, refl, sym, ap, ◌∙◌}
 use mathlib.Core.Logic.{◌≢◌}
-use mathlib.Core.List.{List, [], ◌∷◌}
+use mathlib.Core.List.{List, [], ◌∷◌, ◌++◌, append_assoc}
 use Prim.Native.Nat.{ℕ, zero, suc, ◌+◌, ◌*◌, ◌-◌, ◌≤◌, ◌<◌, ◌%◌}
 use native.Mathlib.Decide.{dec_lt}
 use native.Mathlib.Omega.{arith}
 use lib.Dec.{eqb}
-use lib.ListN.{length, get_or, get_or-append}
-use lib.Seq.{drop-cons, get_or-append_seam}
+use lib.ListN.{length, get_or, get_or-append, take, drop, take-append-drop}
+use lib.Seq.{get_or-append_seam, take-append_seam, drop-append_seam, take-length, drop-length}
 use borrow.Author.Tests.{eq-eqb, ne_eqb, eqb-true, eqb-false}
 use Rattle.meaning.specs.Words.{Word as Letters, Words, snoc, word}
 use Rattle.meaning.proofs.Find.{Tested, pass, fail, test}
-use Rattle.letters.specs.Letters.{letter, mapped, part}
+use Rattle.letters.specs.Letters.{letter, mapped}
 use Rattle.records.specs.Classes.{classes, class_of, up_to_last}
 
 pub class_below : (w : Letters) → class_of w < classes
@@ -19,11 +19,27 @@ unfolding class_of
 class_below [] = omega arith
 class_below (a ∷ w) = omega arith
 
--- the class of a part, from that of the part after its first byte
-pub class_more : (m b : List ℕ) (p n : ℕ) → p < length b
-    → (letter m (get_or b p 0) + 5 * class_of (mapped m (part b (suc p) n))) % classes ≡ class_of (mapped m (part b p (suc n)))
-unfolding class_of
-class_more m b p n h = rw (drop-cons b p 0 h)
+-- bytes whose last ones, after `rest`, are taken off one by one from the front of these
+pub record Behind (u rest : List ℕ) : Type 0 where
+  pub is : rest ≡ take (length rest) u
+
+pub behind_all : (u : List ℕ) → Behind u u × (drop (length u) u ≡ [])
+behind_all u = (record { is = sym (take-length u) }, drop-length u)
+
+module _ {u rest : List ℕ} (β : Behind u rest) (more : List ℕ) (x : ℕ) (e : rest ≡ more ++ x ∷ []) where
+  whole : u ≡ more ++ x ∷ drop (length rest) u
+  whole =
+      sym (take-append-drop (length rest) u) ∙ ap (◌++ drop (length rest) u) (sym β.is ∙ e)
+      ∙ append_assoc more (x ∷ []) (drop (length rest) u)
+
+  pub behind_more : Behind u more
+  behind_more = record { is = sym (ap (take (length more)) whole ∙ take-append_seam more (x ∷ drop (length rest) u)) }
+
+  pub class_more : (m : List ℕ)
+      → (letter m x + 5 * class_of (mapped m (drop (length rest) u))) % classes ≡ class_of (mapped m (drop (length more) u))
+  unfolding class_of
+  class_more m =
+      sym (ap (λ (v : List ℕ). class_of (mapped m v)) (ap (drop (length more)) whole ∙ drop-append_seam more (x ∷ drop (length rest) u)))
 
 -- what `up_to_last` gives: the word before it is of the class, and none from it on
 pub record Last (X : Words) (c n q : ℕ) : Type 0 where

@@ -1,19 +1,20 @@
 -- What is told decides the answer: answers that tell the same are the same, and a run or a book is known by what it tells.
-use mathlib.Core.Path.{◌≡◌, ap}
-use mathlib.Core.List.{[], ◌∷◌}
+use mathlib.Core.Path.{◌≡◌, refl, sym, ap, ◌∙◌}
+use mathlib.Core.List.{List, [], ◌∷◌}
 use native.Mathlib.Omega.{arith}
 use Prim.Native.Nat.{ℕ}
-use lib.ListN.{length}
+use lib.Dec.{eqb}
+use lib.ListN.{length, get_or}
+use Rattle.std.specs.Prelude.{Option, None, Some, Result, Ok, Err, if◌then◌else◌}
 use Rattle.meaning.specs.Words.{Words, total}
-use Rattle.letters.specs.declared.record.BlockRecord.{BlockRecord}
-use Rattle.letters.specs.declared.record.BlockRecord.TheVariants as block
+use Rattle.letters.specs.declared.refusal.Reason.{Reason}
+use Rattle.letters.specs.declared.refusal.Refusal.{Refusal}
+use Rattle.letters.proofs.Reasons.{of_number, reason_is, some_number}
 use Rattle.records.specs.Run.{Run, ran, refused}
 use Rattle.records.specs.Book.{Opened, opened, shut}
-use Rattle.records.specs.Told.{Told, refusal, answer, block_told, dictionary_told, run_tells, book_told, book_tells}
+use Rattle.records.specs.Told.{Told, refusal, answer, refusal_told, block_told, dictionary_told, run_tells, book_told, book_tells}
 use Rattle.records.specs.declared.dictionary.Dictionary.{Dictionary}
-use Rattle.records.specs.declared.dictionary.Dictionary.TheVariants as dictionary
 use Rattle.records.specs.declared.book.Book.{Book}
-use Rattle.records.specs.declared.book.Book.TheVariants as book
 
 -- what is told, part by part
 pub record Same (s t : Told) : Type 0 where
@@ -28,28 +29,45 @@ parts e = record {
   values = ap (λ (t : Told). t.values) e;
 }
 
-pub block_determined : (r s : BlockRecord) → block_told r ≡ block_told s → r ≡ s
-block_determined block.End block.End e = let q = parts e in cc
-block_determined block.End (block.Text n) e = let q = parts e in cc
-block_determined block.End (block.Bad n) e = let q = parts e in cc
-block_determined (block.Text k) block.End e = let q = parts e in cc
-block_determined (block.Text k) (block.Text n) e = let q = parts e in cc
-block_determined (block.Text k) (block.Bad n) e = let q = parts e in cc
-block_determined (block.Bad k) block.End e = let q = parts e in cc
-block_determined (block.Bad k) (block.Text n) e = let q = parts e in cc
-block_determined (block.Bad k) (block.Bad n) e = let q = parts e in cc
+-- the answer that tells this, where what f makes of the values is what is answered
+abbrev back : {A : Type 0} → (List ℕ → A) → Told → Result A Refusal
+back f t = if eqb t.number 0 then Ok (f t.values) else Err (record { reason = of_number t.number; place = t.place })
 
-pub dictionary_determined : (r s : Dictionary) → dictionary_told r ≡ dictionary_told s → r ≡ s
-dictionary_determined (dictionary.Words w l a) (dictionary.Words v k c) e = let q = parts e in cc
-dictionary_determined (dictionary.Words w l a) (dictionary.Refused n p) e = let q = parts e in cc
-dictionary_determined (dictionary.Refused n p) (dictionary.Words w l a) e = let q = parts e in cc
-dictionary_determined (dictionary.Refused n p) (dictionary.Refused k o) e = let q = parts e in cc
+refusal_back : {A : Type 0} (f : List ℕ → A) (r : Refusal) → back f (refusal_told r) ≡ Err r
+refusal_back f r = rw (some_number r.reason, reason_is r.reason) refl
 
-pub book_determined : (r s : Book) → book_told r ≡ book_told s → r ≡ s
-book_determined (book.Blocks w n a) (book.Blocks v k c) e = let q = parts e in cc
-book_determined (book.Blocks w l a) (book.Refused n p) e = let q = parts e in cc
-book_determined (book.Refused n p) (book.Blocks w l a) e = let q = parts e in cc
-book_determined (book.Refused n p) (book.Refused k o) e = let q = parts e in cc
+-- so answers are told apart by what they tell, if their values are
+pub told_apart : {A : Type 0} (told : Result A Refusal → Told) (f : List ℕ → A) → ((x : A) → back f (told (Ok x)) ≡ Ok x)
+    → ((r : Refusal) → told (Err r) ≡ refusal_told r) → (r s : Result A Refusal) → told r ≡ told s → r ≡ s
+told_apart {A = A} told f values refusals r s e = sym (again r) ∙ ap (back f) e ∙ again s
+  where
+    again : (q : Result A Refusal) → back f (told q) ≡ q
+    again (Ok x) = values x
+    again (Err r) = ap (back f) (refusals r) ∙ refusal_back f r
+
+pub dictionary_determined : (r s : Result Dictionary Refusal) → dictionary_told r ≡ dictionary_told s → r ≡ s
+dictionary_determined =
+    told_apart dictionary_told
+    (λ v. record { words = get_or v 0 0; letters = get_or v 1 0; end = get_or v 2 0 })
+    (λ d. refl)
+    (λ r. refl)
+
+pub book_determined : (r s : Result Book Refusal) → book_told r ≡ book_told s → r ≡ s
+book_determined =
+    told_apart book_told (λ v. record { words = get_or v 0 0; blocks = get_or v 1 0; start = get_or v 2 0 }) (λ b. refl) (λ r. refl)
+
+-- the record that tells this: none or one, and its text's length
+abbrev block_back : Told → Result (Option ℕ) Reason
+block_back t =
+    if eqb t.number 0 then Ok (if eqb (get_or t.values 0 0) 0 then None else Some (get_or t.values 1 0)) else Err (of_number t.number)
+
+block_is : (r : Result (Option ℕ) Reason) → block_back (block_told r) ≡ r
+block_is (Ok None) = refl
+block_is (Ok (Some n)) = refl
+block_is (Err reason) = rw (some_number reason, reason_is reason) refl
+
+pub block_determined : (r s : Result (Option ℕ) Reason) → block_told r ≡ block_told s → r ≡ s
+block_determined r s e = sym (block_is r) ∙ ap block_back e ∙ block_is s
 
 -- a run, and a book, by what they tell
 pub record RanAs (r : Run) (words letters end : ℕ) : Type 0 where

@@ -12,8 +12,8 @@ use Rattle.letters.specs.Letters.{mapped}
 use Rattle.letters.specs.Record.{word_at, block_at, text_at}
 use Rattle.letters.specs.declared.record.Record.{Record}
 use Rattle.letters.specs.declared.record.Record.TheVariants as word
-use Rattle.letters.specs.declared.record.BlockRecord.{BlockRecord}
-use Rattle.letters.specs.declared.record.BlockRecord.TheVariants as block
+use Rattle.letters.specs.declared.refusal.Reason.{Reason}
+use Rattle.std.specs.Prelude.{Option, None, Some, Result, Ok, Err}
 use Rattle.letters.proofs.Records.{FitsBlock, block_fits}
 use Rattle.records.specs.Run.{record_after, Run, on_record, run_from, run}
 use Rattle.records.specs.Book.{Blocks, on_block, blocks_from, blocks}
@@ -32,12 +32,12 @@ module _ (in_book : Bool) (m b : List ℕ) (g : ℕ) where
       more : ℕ → ℕ → Run
       more k n = run_from in_book (mapped m) b k (snoc X (word_at (mapped m) b at n)) (at + 3 + n)
 
-      on : ((n : ℕ) → Joins m b X at n → more (f + g) n ≡ more f n) → (r : Record) → record_after (mapped m) b X at ≡ r
+      on : ((n : ℕ) → Joins m b X at n → more (f + g) n ≡ more f n) → (r : Result Record Reason) → record_after (mapped m) b X at ≡ r
           → on_record in_book X at (more (f + g)) r ≡ on_record in_book X at (more f) r
-      on go word.End j = refl
-      on go word.Block j = refl
-      on go (word.Word n) j = go n (joins m b X at n j)
-      on go (word.Bad number) j = refl
+      on go (Ok word.End) j = refl
+      on go (Ok word.Block) j = refl
+      on go (Ok (word.Word n)) j = go n (joins m b X at n j)
+      on go (Err reason) j = refl
 
   pub run_enough : run_from in_book (mapped m) b (suc most_words + g) [] 0 ≡ run in_book (mapped m) b
   unfolding run
@@ -53,11 +53,11 @@ module _ (b : List ℕ) (g : ℕ) where
       more : ℕ → ℕ → Blocks
       more k n = blocks_from b k (snoc T (text_at b at n)) (at + 4 + n)
 
-      on : ((n : ℕ) → FitsBlock b at n → more (f + g) n ≡ more f n) → (r : BlockRecord) → block_at b at ≡ r
+      on : ((n : ℕ) → FitsBlock b at n → more (f + g) n ≡ more f n) → (r : Result (Option ℕ) Reason) → block_at b at ≡ r
           → on_block T (more (f + g)) r ≡ on_block T (more f) r
-      on go block.End j = refl
-      on go (block.Text n) j = go n (block_fits j)
-      on go (block.Bad number) j = refl
+      on go (Ok None) j = refl
+      on go (Ok (Some n)) j = go n (block_fits j)
+      on go (Err reason) j = refl
 
   pub blocks_enough : (start : ℕ) → start ≤ length b → blocks_from b (suc (length b) + g) [] start ≡ blocks b start
   unfolding blocks

@@ -12,18 +12,20 @@ use Rattle.meaning.specs.Plain.{LettersBelow}
 use Rattle.letters.specs.Letters.{mapped, identity, part}
 use Rattle.letters.specs.Record.{record_at, word_at}
 use Rattle.letters.specs.declared.record.Record.{Record}
-use Rattle.letters.specs.declared.record.Record.TheVariants.{End, Block, Word, Bad}
+use Rattle.letters.specs.declared.record.Record.TheVariants.{End, Block, Word}
+use Rattle.letters.specs.declared.refusal.Reason.{Reason}
+use Rattle.std.specs.Prelude.{Result, Ok, Err}
 use Rattle.letters.proofs.Bytes.{mapped_identity}
 use Rattle.records.specs.Run.{joining, joined as joined_by, record_after, Run, on_record, run_from, run, dictionary, byte_dictionary}
 use Rattle.records.specs.Book.{book, byte_book}
 
 -- two ways to take bytes as letters that agree on each part of the bytes give the same run
 module _ (in_book : Bool) (k ℓ : List ℕ → Letters) (b : List ℕ) (agree : (at n : ℕ) → k (part b at n) ≡ ℓ (part b at n)) where
-  after_agrees : (X : Words) (at : ℕ) (r : Record) → joined_by k b X at r ≡ joined_by ℓ b X at r
-  after_agrees X at End = refl
-  after_agrees X at Block = refl
-  after_agrees X at (Word n) = ap (λ (w : Letters). joining (λ u. w) b X at n) (agree (at + 3) n)
-  after_agrees X at (Bad number) = refl
+  after_agrees : (X : Words) (at : ℕ) (r : Result Record Reason) → joined_by k b X at r ≡ joined_by ℓ b X at r
+  after_agrees X at (Ok End) = refl
+  after_agrees X at (Ok Block) = refl
+  after_agrees X at (Ok (Word n)) = ap (λ (w : Letters). joining (λ u. w) b X at n) (agree (at + 3) n)
+  after_agrees X at (Err reason) = refl
 
   from_agrees : (f : ℕ) (X : Words) (at : ℕ) → run_from in_book k b f X at ≡ run_from in_book ℓ b f X at
   from_agrees zero X at = refl
@@ -33,14 +35,14 @@ module _ (in_book : Bool) (k ℓ : List ℕ → Letters) (b : List ℕ) (agree :
       more : (List ℕ → Letters) → ℕ → Run
       more j n = run_from in_book j b f (snoc X (word_at j b at n)) (at + 3 + n)
 
-      on : ((Y : Words) (p : ℕ) → run_from in_book k b f Y p ≡ run_from in_book ℓ b f Y p) → (r : Record)
+      on : ((Y : Words) (p : ℕ) → run_from in_book k b f Y p ≡ run_from in_book ℓ b f Y p) → (r : Result Record Reason)
           → on_record in_book X at (more k) r ≡ on_record in_book X at (more ℓ) r
-      on later End = refl
-      on later Block = refl
-      on later (Word n) =
+      on later (Ok End) = refl
+      on later (Ok Block) = refl
+      on later (Ok (Word n)) =
           later (snoc X (word_at k b at n)) (at + 3 + n)
           ∙ ap (λ (w : Letters). run_from in_book ℓ b f (snoc X w) (at + 3 + n)) (agree (at + 3) n)
-      on later (Bad number) = refl
+      on later (Err reason) = refl
 
   run_agrees : run in_book k b ≡ run in_book ℓ b
   unfolding run

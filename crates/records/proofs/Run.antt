@@ -18,13 +18,15 @@ use Rattle.meaning.proofs.States.{total-append}
 use Rattle.letters.specs.Letters.{mapped}
 use Rattle.letters.specs.Record.{record_at, word_at}
 use Rattle.letters.specs.declared.record.Record.{Record}
-use Rattle.letters.specs.declared.record.Record.TheVariants.{End, Block, Word, Bad}
+use Rattle.letters.specs.declared.record.Record.TheVariants.{End, Block, Word}
+use Rattle.letters.specs.declared.refusal.Reason.{Reason}
+use Rattle.std.specs.Prelude.{Result, Ok, Err}
 use Rattle.letters.proofs.Cases.{picked}
 use Rattle.letters.proofs.Records.{FitsWord, word_fits, word_size, word_end}
 use Rattle.records.specs.Run.{joined, record_after, Run, ran, refused, on_record, run_from, run}
 use Rattle.records.specs.Stored.{Stands, stop, step, Holds}
 
-stands_more : {m b : List ℕ} {e p : ℕ} (n : ℕ) {X : Words} → Stands m b e p X → record_at b e ≡ Word n
+stands_more : {m b : List ℕ} {e p : ℕ} (n : ℕ) {X : Words} → Stands m b e p X → record_at b e ≡ Ok (Word n)
     → Stands m b (e + 3 + n) p (snoc X (word_at (mapped m) b e n))
 stands_more n stop r = step r stop
 stands_more n (step q s) r = step q (stands_more n s r)
@@ -35,12 +37,12 @@ stands_end stop = omega arith
 stands_end {m} {b} {e} {p} (step {n = n} q s) = omega (arith, word_size m b p n q, stands_end s)
 
 -- where a word record is read the record of its word stands
-pub holds : (m b : List ℕ) (p n : ℕ) → record_at b p ≡ Word n → Holds m b p (word_at (mapped m) b p n)
+pub holds : (m b : List ℕ) (p n : ℕ) → record_at b p ≡ Ok (Word n) → Holds m b p (word_at (mapped m) b p n)
 holds m b p n q =
     let f : FitsWord b p n = word_fits q in
     let l : length (word_at (mapped m) b p n) ≡ n = word_size m b p n q in
     record {
-      record_here = q ∙ ap Word (sym l);
+      record_here = q ∙ ap (λ (k : ℕ). Ok (Word k)) (sym l);
       letters = ap (word_at (mapped m) b p) (sym l);
       nonempty = omega (arith, f.nonempty);
       short = omega (arith, f.short);
@@ -62,32 +64,32 @@ found_more X w d new k h =
 
 -- a record whose word joins the words X
 pub record Joins (m b : List ℕ) (X : Words) (at n : ℕ) : Type 0 where
-  pub stands : record_at b at ≡ Word n
+  pub stands : record_at b at ≡ Ok (Word n)
   pub few : length X < most_words
   pub small : total X + n ≤ most_letters
   pub new : has X (word_at (mapped m) b at n) ≡ false
 
-abbrev Joins-if : List ℕ → List ℕ → Words → ℕ → Record → Type 0
-Joins-if m b X at End = length b ≤ at
-Joins-if m b X at Block = Unit
-Joins-if m b X at (Word n) = Joins m b X at n
-Joins-if m b X at (Bad number) = Unit
+abbrev Joins-if : List ℕ → List ℕ → Words → ℕ → Result Record Reason → Type 0
+Joins-if m b X at (Ok End) = length b ≤ at
+Joins-if m b X at (Ok Block) = Unit
+Joins-if m b X at (Ok (Word n)) = Joins m b X at n
+Joins-if m b X at (Err reason) = Unit
 
-joins_if : (m b : List ℕ) (X : Words) (at : ℕ) (r : Record) → record_at b at ≡ r → Joins-if m b X at (joined (mapped m) b X at r)
-joins_if m b X at End e = word_end b at e
-joins_if m b X at Block e = tt
-joins_if m b X at (Word n) e =
+joins_if : (m b : List ℕ) (X : Words) (at : ℕ) (r : Result Record Reason) → record_at b at ≡ r → Joins-if m b X at (joined (mapped m) b X at r)
+joins_if m b X at (Ok End) e = word_end b at e
+joins_if m b X at (Ok Block) e = tt
+joins_if m b X at (Ok (Word n)) e =
     let P = Joins-if m b X at in
     picked P (leb most_words (length X)) (λ q. tt)
     (λ many. picked P (ltb most_letters (total X + n)) (λ q. tt)
     (λ long. picked P (has X (word_at (mapped m) b at n)) (λ q. tt)
     (λ new. record { stands = e; few = leb-false most_words _ many; small = ltb-false most_letters _ long; new = new })))
-joins_if m b X at (Bad number) e = tt
+joins_if m b X at (Err reason) e = tt
 
-pub joins : (m b : List ℕ) (X : Words) (at n : ℕ) → record_after (mapped m) b X at ≡ Word n → Joins m b X at n
+pub joins : (m b : List ℕ) (X : Words) (at n : ℕ) → record_after (mapped m) b X at ≡ Ok (Word n) → Joins m b X at n
 joins m b X at n e = subst (Joins-if m b X at) e (joins_if m b X at (record_at b at) refl)
 
-at_end_lem : (m b : List ℕ) (X : Words) (at : ℕ) → record_after (mapped m) b X at ≡ End → length b ≤ at
+at_end_lem : (m b : List ℕ) (X : Words) (at : ℕ) → record_after (mapped m) b X at ≡ Ok End → length b ≤ at
 at_end_lem m b X at e = subst (Joins-if m b X at) e (joins_if m b X at (record_at b at) refl)
 
 -- what holds of words read so far, up to an offset
@@ -144,12 +146,12 @@ module _ (m b : List ℕ) where
       not_both : {A : Type 0} (t : Bool) → t ≡ true → t ≡ false → A
       not_both t p q = let z : ◌≡◌ {A = ℕ} 0 1 = cc in absurd (omega arith)
 
-      on : ((n : ℕ) → Joins m b X at n → Ends in_book (more n)) → (r : Record) → record_after (mapped m) b X at ≡ r
+      on : ((n : ℕ) → Joins m b X at n → Ends in_book (more n)) → (r : Result Record Reason) → record_after (mapped m) b X at ≡ r
           → Ends in_book (on_record in_book X at more r)
-      on go End e = let l = at_end_lem m b X at e in record { good = g; whole = λ q. omega (arith, g.within) }
-      on go Block e = picked (Ends in_book) in_book (λ p. record { good = g; whole = λ q. not_both in_book p q }) (λ q. tt)
-      on go (Word n) e = go n (joins m b X at n e)
-      on go (Bad number) e = tt
+      on go (Ok End) e = let l = at_end_lem m b X at e in record { good = g; whole = λ q. omega (arith, g.within) }
+      on go (Ok Block) e = picked (Ends in_book) in_book (λ p. record { good = g; whole = λ q. not_both in_book p q }) (λ q. tt)
+      on go (Ok (Word n)) e = go n (joins m b X at n e)
+      on go (Err reason) e = tt
 
   pub run_ended : (in_book : Bool) → Ends in_book (run in_book (mapped m) b)
   unfolding run

@@ -3,7 +3,8 @@ use mathlib.Core.Path.{◌≡◌, ap, sym, ◌∙◌, subst}
 use mathlib.Core.Logic.{◌≢◌}
 use mathlib.Core.Bool.{true, false}
 use mathlib.Core.List.{List}
-use Prim.Native.Nat.{ℕ, suc, ◌+◌, ◌-◌, ◌≤◌, ◌<◌}
+use Rattle.std.specs.Prelude.{Ok}
+use Prim.Native.Nat.{ℕ, ◌+◌, ◌-◌, ◌≤◌, ◌<◌}
 use native.Mathlib.Decide.{dec_lt}
 use native.Mathlib.Omega.{arith}
 use lib.ListN.{length, get_or}
@@ -15,7 +16,8 @@ use Rattle.letters.specs.declared.record.Record.TheVariants.{Word}
 use Rattle.letters.proofs.Bytes.{mapped-length}
 use Rattle.letters.proofs.Records.{FitsWord, word_fits}
 use Rattle.records.specs.Stored.{Holds}
-use Rattle.records.specs.Classes.{class_of, up_to_last, older_at, place_at, Indexed}
+use Rattle.records.specs.declared.repeats.Index.{Index}
+use Rattle.records.specs.Classes.{class_of, up_to_last, Indexed}
 use Rattle.records.proofs.Classes.{class_below, last}
 
 -- the record of a word, beside a word record of n letters at another offset
@@ -37,15 +39,15 @@ module _ {m b : List ℕ} {p at n : ℕ} {w : Letters} (h : Holds m b p w) (f : 
 
 -- in search of the word whose record stands at an offset: among the words X it is none of those from q on, and the one before is
 -- of its class
-pub record Searching (m b index : List ℕ) (at n : ℕ) (X : Words) (q : ℕ) : Type 0 where
-  pub sought : record_at b at ≡ Word n
+pub record Searching (m b : List ℕ) (index : Index) (at n : ℕ) (X : Words) (q : ℕ) : Type 0 where
+  pub sought : record_at b at ≡ Ok (Word n)
   pub indexed : Indexed m b index X
   pub within : q ≤ length X
   pub its : 0 < q → class_of (word X (q - 1)) ≡ class_of (word_at (mapped m) b at n)
   pub others : (k : ℕ) → q ≤ k → k < length X → word X k ≢ word_at (mapped m) b at n
 
 -- from the last of the first k words that are of the class, where it is none of the others
-from_last : {m b index : List ℕ} {at n : ℕ} {X : Words} (k : ℕ) → record_at b at ≡ Word n → Indexed m b index X → k ≤ length X
+from_last : {m b : List ℕ} {index : Index} {at n : ℕ} {X : Words} (k : ℕ) → record_at b at ≡ Ok (Word n) → Indexed m b index X → k ≤ length X
     → ((j : ℕ) → k ≤ j → j < length X → word X j ≢ word_at (mapped m) b at n)
     → Searching m b index at n X (up_to_last X (class_of (word_at (mapped m) b at n)) k)
 from_last {m} {b} {at = at} {n} {X} k r ι h f =
@@ -58,14 +60,14 @@ from_last {m} {b} {at = at} {n} {X} k r ι h f =
       others = λ j i u. elim (dec_lt j k) [ yes s ↦ λ e. l.others j i s (ap class_of e) | no s ↦ f j (omega arith) u ];
     }
 
-pub search_starts : {m b index : List ℕ} {at n c q : ℕ} {X : Words} → record_at b at ≡ Word n → Indexed m b index X
-    → c ≡ class_of (word_at (mapped m) b at n) → q ≡ get_or index c 0 → Searching m b index at n X q
+pub search_starts : {m b : List ℕ} {index : Index} {at n c q : ℕ} {X : Words} → record_at b at ≡ Ok (Word n) → Indexed m b index X
+    → c ≡ class_of (word_at (mapped m) b at n) → q ≡ get_or index.last c 0 → Searching m b index at n X q
 search_starts {m} {b} {index} {at} {n} {X = X} r ι e z =
     let w = word_at (mapped m) b at n in
-    subst (Searching m b index at n X) (sym (z ∙ ap (λ (d : ℕ). get_or index d 0) e ∙ ι.last (class_of w) (class_below w)))
+    subst (Searching m b index at n X) (sym (z ∙ ap (λ (d : ℕ). get_or index.last d 0) e ∙ ι.last (class_of w) (class_below w)))
     (from_last (length X) r ι (omega arith) (λ k h l. absurd (omega arith)))
 
-module _ {m b index : List ℕ} {at n : ℕ} {X : Words} {q : ℕ} (s : Searching m b index at n X q) where
+module _ {m b : List ℕ} {index : Index} {at n : ℕ} {X : Words} {q : ℕ} (s : Searching m b index at n X q) where
   pub search_ends : q ≤ 0 → has X (word_at (mapped m) b at n) ≡ false
   search_ends h =
       ap is_some (none_unless (find X (word_at (mapped m) b at n)) (λ k e.
@@ -73,12 +75,10 @@ module _ {m b index : List ℕ} {at n : ℕ} {X : Words} {q : ℕ} (s : Searchin
       s.others k (omega arith) f.inside f.reads))
 
   -- it goes on with the word before of the class
-  module _ {q' : ℕ} (h : 0 < q) (z : q' ≡ get_or index (older_at q) 0) where
+  module _ {q' : ℕ} (h : 0 < q) (z : q' ≡ get_or index.older (q - 1) 0) where
     before : q' ≡ up_to_last X (class_of (word_at (mapped m) b at n)) (q - 1)
     before =
-        let i : q ≡ suc (q - 1) = omega arith in
-        z ∙ ap (λ (j : ℕ). get_or index (older_at j) 0) i
-        ∙ s.indexed.older (q - 1) (omega (arith, s.within)) ∙ ap (λ (c : ℕ). up_to_last X c (q - 1)) (s.its h)
+        z ∙ s.indexed.older (q - 1) (omega (arith, s.within)) ∙ ap (λ (c : ℕ). up_to_last X c (q - 1)) (s.its h)
 
     pub search_less : q' < q
     search_less = omega (arith, before, (last X (class_of (word_at (mapped m) b at n)) (q - 1)).within)
@@ -97,11 +97,9 @@ module _ {m b index : List ℕ} {at n : ℕ} {X : Words} {q : ℕ} (s : Searchin
     inside : q - 1 < length X
     inside = omega (arith, s.within)
 
-    pub next_stands : {p : ℕ} → p ≡ get_or index (place_at q) 0 → Holds m b p (word X (q - 1))
+    pub next_stands : {p : ℕ} → p ≡ get_or index.places (q - 1) 0 → Holds m b p (word X (q - 1))
     next_stands e =
-        let i : suc (q - 1) ≡ q = omega arith in
-        subst (λ (j : ℕ). Holds m b j (word X (q - 1))) (ap (λ (j : ℕ). get_or index (place_at j) 0) i ∙ sym e)
-        (s.indexed.places (q - 1) inside)
+        subst (λ (j : ℕ). Holds m b j (word X (q - 1))) (sym e) (s.indexed.places (q - 1) inside)
 
     pub search_finds : same (word X (q - 1)) (word_at (mapped m) b at n) ≡ true → has X (word_at (mapped m) b at n) ≡ true
     search_finds t = let (k, f, l) = find_at X (word_at (mapped m) b at n) (q - 1) inside (same_true _ _ t) in ap is_some f

@@ -2,6 +2,7 @@
 use mathlib.Core.Path.{◌≡◌, refl, ap, ap₂, sym, ◌∙◌, subst}
 use mathlib.Core.Bool.{true, false}
 use mathlib.Core.List.{List, [], ◌∷◌, ◌++◌, map, append_assoc, append-nil}
+use Rattle.std.specs.Prelude.{Ok}
 use Prim.Native.Nat.{ℕ, zero, suc, ◌+◌, ◌≤◌, ◌<◌}
 use native.Mathlib.Omega.{arith}
 use lib.ListN.{length, get_or, take, drop, length-append, length-drop, length-map, take-append-drop}
@@ -92,7 +93,7 @@ module _ (b : List ℕ) (p : ℕ) (w : Letters) (rest : List ℕ) (e : drop p b 
   reads_rest : drop (p + 3 + length w) b ≡ rest
   reads_rest = sym (drop-drop (length w) (p + 3) b) ∙ ap (drop (length w)) past_three ∙ drop-append_seam w rest
 
-  reads_record : 1 ≤ length w → length w ≤ longest_word → record_at b p ≡ Word (length w)
+  reads_record : 1 ≤ length w → length w ≤ longest_word → record_at b p ≡ Ok (Word (length w))
   reads_record h l = word_record_lem {b = b} {at = p} (record {
     mark = ap (take 2) e;
     size = sym (get_or-drop p b 2 0) ∙ ap (λ (u : List ℕ). get_or u 2 0) e;
@@ -109,7 +110,7 @@ module _ (m b : List ℕ) where
   reads [] (suc f) X p l h e s =
       let z : length b ≤ p = omega (arith, ap length e, length-drop p b) in
       let q : p ≡ length b = omega arith in
-      let r : record_at b p ≡ End = simp (le-leb _ _ z) in
+      let r : record_at b p ≡ Ok End = simp (le-leb _ _ z) in
       rw (r, q, append-nil X)
   reads (w ∷ raw) (suc f) X p l h e s =
       let v = mapped m w in
@@ -124,8 +125,8 @@ module _ (m b : List ℕ) where
       let few : length X < most_words = omega (arith, s.few) in
       let small : total X + n ≤ most_letters = omega (arith, s.small, total-append X (v ∷ Y)) in
       let new : has X (word_at (mapped m) b p n) ≡ false = ap (has X) v-is ∙ new_word X v Y s.dictionary.distinct in
-      let here : record_at b p ≡ Word n = reads_record b p w (word_records raw) e (omega arith) (omega arith) in
-      let after : record_after (mapped m) b X p ≡ Word n = ap (joined (mapped m) b X p) here ∙ simp (lt-leb _ _ few, le-ltb _ _ small, new) in
+      let here : record_at b p ≡ Ok (Word n) = reads_record b p w (word_records raw) e (omega arith) (omega arith) in
+      let after : record_after (mapped m) b X p ≡ Ok (Word n) = ap (joined (mapped m) b X p) here ∙ simp (lt-leb _ _ few, le-ltb _ _ small, new) in
       let regrouped : snoc X v ++ Y ≡ X ++ v ∷ Y = append_assoc X (v ∷ []) Y in
       let fits = room b p w (word_records raw) e in
       ap (on_record false X p (λ k. run_from false (mapped m) b f (snoc X (word_at (mapped m) b p k)) (p + 3 + k))) after

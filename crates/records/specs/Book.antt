@@ -1,10 +1,10 @@
 -- A book: its words, then its blocks, or the first refusal.
-use Rattle.std.specs.Prelude.{◌≡◌, List, [], ℕ, zero, suc, ◌+◌, ◌*◌, ◌≤◌, ltb, length, take, if◌then◌else◌}
+use Rattle.std.specs.Prelude.{◌≡◌, Option, None, Some, Result, Ok, Err, List, [], ℕ, zero, suc, ◌+◌, ◌*◌, ◌≤◌, ltb, length, take, if◌then◌else◌}
 use Rattle.meaning.specs.Words.{Words, word, snoc, total}
 use Rattle.letters.specs.Letters.{part}
 use Rattle.letters.specs.Record.{block_at, text_at}
-use Rattle.letters.specs.declared.record.BlockRecord.{BlockRecord}
-use Rattle.letters.specs.declared.record.BlockRecord.TheVariants.{End, Text, Bad}
+use Rattle.letters.specs.Refusal.{number_of}
+use Rattle.letters.specs.declared.refusal.Reason.{Reason}
 use Rattle.records.specs.Run.{Run, ran, refused, book_run, book_words}
 
 -- the blocks' texts; or a refusal's number and the number of blocks before it
@@ -12,10 +12,10 @@ pub data Blocks : Type 0 where
   texts : Words → Blocks
   bad : ℕ → ℕ → Blocks
 
-abbrev pub on_block : Words → (ℕ → Blocks) → BlockRecord → Blocks
-on_block T more End = texts T
-on_block T more (Text n) = more n
-on_block T more (Bad number) = bad number (length T)
+abbrev pub on_block : Words → (ℕ → Blocks) → Result (Option ℕ) Reason → Blocks
+on_block T more (Ok None) = texts T
+on_block T more (Ok (Some n)) = more n
+on_block T more (Err reason) = bad (number_of reason) (length T)
 
 -- the blocks from an offset on, after the texts T; the first number bounds the records that are read
 abbrev pub blocks_from : List ℕ → ℕ → Words → ℕ → Blocks

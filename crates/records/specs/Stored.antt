@@ -1,5 +1,5 @@
 -- Where the words of a dictionary stand in its bytes, and what its bytes are.
-use Rattle.std.specs.Prelude.{◌≡◌, List, [], ◌∷◌, ◌++◌, ℕ, ◌+◌, ◌*◌, ◌≤◌, length, take}
+use Rattle.std.specs.Prelude.{◌≡◌, Ok, List, [], ◌∷◌, ◌++◌, ℕ, ◌+◌, ◌*◌, ◌≤◌, length, take}
 use Rattle.meaning.specs.Numbers.{longest_word}
 use Rattle.meaning.specs.Words.{Word, Words, total}
 use Rattle.letters.specs.Letters.{mapped}
@@ -9,7 +9,7 @@ use Rattle.letters.specs.declared.record.Record.TheVariants as found
 -- the records of the words X follow each other from the offset p on, up to the offset e
 pub data Stands (m b : List ℕ) (e : ℕ) : ℕ → Words → Type 0 where
   stop : Stands m b e e []
-  step : {p n : ℕ} {X : Words} → record_at b p ≡ found.Word n → Stands m b e (p + 3 + n) X → Stands m b e p (word_at (mapped m) b p n ∷ X)
+  step : {p n : ℕ} {X : Words} → record_at b p ≡ Ok (found.Word n) → Stands m b e (p + 3 + n) X → Stands m b e p (word_at (mapped m) b p n ∷ X)
 
 -- the words X, so many with so many letters, stand from the first byte up to the offset
 pub record Before (m b : List ℕ) (at words letters : ℕ) (X : Words) : Type 0 where
@@ -23,7 +23,7 @@ place X k = 3 * k + total (take k X)
 
 -- the record of the word w stands at an offset
 pub record Holds (m b : List ℕ) (at : ℕ) (w : Word) : Type 0 where
-  pub record_here : record_at b at ≡ found.Word (length w)
+  pub record_here : record_at b at ≡ Ok (found.Word (length w))
   pub letters : w ≡ word_at (mapped m) b at (length w)
   pub nonempty : 1 ≤ length w
   pub short : length w ≤ longest_word

@@ -1,14 +1,13 @@
 -- What a call tells, as document 01 has it.
-use Rattle.std.specs.Prelude.{List, [], ◌∷◌, ℕ, ◌+◌, length}
+use Rattle.std.specs.Prelude.{Option, None, Some, Result, Ok, Err, List, [], ◌∷◌, ℕ, ◌+◌, length}
 use Rattle.meaning.specs.Words.{total}
-use Rattle.letters.specs.declared.record.BlockRecord.{BlockRecord}
-use Rattle.letters.specs.declared.record.BlockRecord.TheVariants as block
+use Rattle.letters.specs.Refusal.{number_of}
+use Rattle.letters.specs.declared.refusal.Reason.{Reason}
+use Rattle.letters.specs.declared.refusal.Refusal.{Refusal}
 use Rattle.records.specs.Run.{Run, ran, refused}
 use Rattle.records.specs.Book.{Blocks, texts, bad, Opened, opened, shut}
 use Rattle.records.specs.declared.dictionary.Dictionary.{Dictionary}
-use Rattle.records.specs.declared.dictionary.Dictionary.TheVariants as dictionary
 use Rattle.records.specs.declared.book.Book.{Book}
-use Rattle.records.specs.declared.book.Book.TheVariants as book
 
 -- the refusal's number, 0 for none; its place; the values
 pub record Told : Type 0 where
@@ -22,25 +21,28 @@ refusal number place = record { number = number; place = place; values = [] }
 abbrev pub answer : List ℕ → Told
 answer values = record { number = 0; place = 0; values = values }
 
+abbrev pub refusal_told : Refusal → Told
+refusal_told r = refusal (number_of r.reason) r.place
+
 -- how many block records stand here, none or one, and the text's length
-abbrev pub block_told : BlockRecord → Told
-block_told block.End = answer (0 ∷ [])
-block_told (block.Text n) = answer (1 ∷ n ∷ [])
-block_told (block.Bad number) = refusal number 0
+abbrev pub block_told : Result (Option ℕ) Reason → Told
+block_told (Ok None) = answer (0 ∷ [])
+block_told (Ok (Some n)) = answer (1 ∷ n ∷ [])
+block_told (Err reason) = refusal (number_of reason) 0
 
 -- words, their letters, the offset at which they end
-abbrev pub dictionary_told : Dictionary → Told
-dictionary_told (dictionary.Words words letters end) = answer (words ∷ letters ∷ end ∷ [])
-dictionary_told (dictionary.Refused number place) = refusal number place
+abbrev pub dictionary_told : Result Dictionary Refusal → Told
+dictionary_told (Ok d) = answer (d.words ∷ d.letters ∷ d.end ∷ [])
+dictionary_told (Err r) = refusal_told r
 
 abbrev pub run_tells : Run → Told
 run_tells (ran X end) = answer (length X ∷ total X ∷ end ∷ [])
 run_tells (refused number place) = refusal number place
 
 -- words, blocks, the offset of the first block record
-abbrev pub book_told : Book → Told
-book_told (book.Blocks words blocks start) = answer (words ∷ blocks ∷ start ∷ [])
-book_told (book.Refused number place) = refusal number place
+abbrev pub book_told : Result Book Refusal → Told
+book_told (Ok b) = answer (b.words ∷ b.blocks ∷ b.start ∷ [])
+book_told (Err r) = refusal_told r
 
 abbrev pub book_tells : Opened → Told
 book_tells (opened X start T) = answer (length X ∷ length T ∷ start ∷ [])

@@ -6,5 +6,5 @@ mod book;
 mod dictionary;
 mod repeats;
 
-pub use book::{Book, Part, block, block_part, book_words, check_book};
+pub use book::{BlockPart, Book, block, block_part, book_words, check_book};
 pub use dictionary::{Dictionary, check_dictionary, word_place};

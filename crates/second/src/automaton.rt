@@ -1,245 +1,136 @@
-// Records, states and the automaton table's rows.
-ghost use Rattle.std.specs.Prelude.{◌<◌, ◌≤◌};
+// States and the automaton table's rows.
+ghost use Rattle.std.specs.Prelude.{◌+◌, ◌≤◌, length};
+ghost use Rattle.std.specs.List.{sum_by};
+ghost use Rattle.arrayvec.specs.ArrayVec.{array_vec_len};
 
-use super::strings::{
-    NONE, Part, Parts, byte_at, end_of, find, how_many_end, is_part, longest_before, no_parts,
-    part_at, with_part,
-};
-use super::sum::mixed;
+use super::strings::{find, how_many_end, longest_suffix};
+use arrayvec::ArrayVec;
+use cases::Checksum;
 
-// The words, or the number and place of a refusal. Number 0 is no refusal.
+// Stands in the table and in the state column for no word, no state, no letter.
+const NONE: u64 = 65535;
+
+fn number_or_none(number: Option<usize>) -> u64 {
+    number.map_or(NONE, |n| n as u64)
+}
+
+// The words together have at most 42 letters, and there is a state for each at most, besides the empty one.
+type States<'a> = ArrayVec<&'a [u8], 43>;
+
+// Adds the prefixes of the word that are not among the states, the shorter first.
+fn add_prefixes<'a>(states: &mut States<'a>, word: &'a [u8])
+    requires { array_vec_len states.old + length word.now ≤ 43 }
+    ensures { array_vec_len states.new ≤ array_vec_len states.old + length word.now }
+{
+    for last in 0..word.len() {
+        let prefix = &word[..=last];
+        if find(states.as_slice(), prefix).is_none() {
+            states.push(prefix);
+        }
+    }
+}
+
+// Whether the state is `parent` and one letter more.
+fn is_child(state: &[u8], parent: &[u8]) -> bool {
+    state.split_last().is_some_and(|(_, rest)| rest == parent)
+}
+
+// Mixes in the first `width` numbers of a row.
+fn mix_row(sum: &mut Checksum, row: [u64; 8], width: usize) {
+    for n in row.iter().take(width) {
+        sum.mix(*n);
+    }
+}
+
+// The words, and the states in the order of their numbers.
 #[derive(Drop)]
-pub struct Parsed {
-    pub refusal: usize,
-    pub place: usize,
-    pub words: Parts,
+pub struct Automaton<'a> {
+    words: &'a [&'a [u8]],
+    states: States<'a>,
 }
 
-fn wide(b: u8) -> usize
-    ensures { result < 256 }
-{
-    b as usize
-}
-
-// What the record at `at` is refused for, or 0. Refusals 4 and 5 don't occur: at most 64 bytes
-// hold neither 257 words nor 2,048 letters.
-fn refusal_at(d: &[u8; 64], letters: &[u8; 64], len: usize, words: Parts, at: usize) -> usize {
-    if len <= at {
-        return 1;
-    }
-    let left = len - at;
-    if left < 2 || byte_at(d, at, 0) != 87 || byte_at(d, at, 1) != 68 {
-        return 1;
-    }
-    if left < 3 {
-        return 3;
-    }
-    let n = wide(byte_at(d, at, 2));
-    if n == 0 || 64 < n {
-        return 2;
-    }
-    if left - 3 < n {
-        return 3;
-    }
-    if find(letters, words, letters, at + 3, n) != NONE {
-        return 6;
-    }
-    0
-}
-
-// A bound that shows that the places in `parse` fit.
-fn at_most_64(n: usize) -> usize
-    ensures { result ≤ 64 }
-{
-    if n < 64 { n } else { 64 }
-}
-
-// The word records of the first `len` bytes of `d`. Marks and lengths are bytes; words are repeated
-// when their letters are.
-pub fn parse(d: &[u8; 64], letters: &[u8; 64], len: usize) -> Parsed {
-    let end = at_most_64(len);
-    let mut words = no_parts();
-    let mut at = 0;
-    while at < end {
-        let refusal = refusal_at(d, letters, end, words, at);
-        if refusal != 0 {
-            let place = words.count;
-            return Parsed {
-                refusal,
-                place,
-                words,
-            };
+impl<'a> Automaton<'a> {
+    // The states are the empty one, then the prefixes of the words, those of the first word first.
+    pub fn of(words: &'a [&'a [u8]]) -> Automaton<'a>
+        requires { sum_by (λ word. length word.now) words.now ≤ 42 }
+    {
+        let mut states: States = ArrayVec::new();
+        states.push(&[]);
+        for word in words {
+            add_prefixes(&mut states, word);
         }
-        let n = wide(byte_at(d, at, 2));
-        let part = Part {
-            from: at + 3,
-            len: n,
-        };
-        words = with_part(words, part);
-        at = at + 3 + n;
+        Automaton { words, states }
     }
-    Parsed {
-        refusal: 0,
-        place: 0,
-        words,
-    }
-}
 
-// The states with the prefixes of `word` that they lack, the shorter first.
-fn with_prefixes(letters: &[u8; 64], states: Parts, word: Part) -> Parts {
-    let from = word.from;
-    let len = word.len;
-    let mut all = states;
-    for k in 0..len {
-        if find(letters, all, letters, from, k + 1) == NONE {
-            all = with_part(all, Part { from, len: k + 1 });
+    fn state_number(&self, state: &[u8]) -> Option<usize> {
+        find(self.states.as_slice(), state)
+    }
+
+    // r: the greatest number of words that are suffixes of one state.
+    fn greatest_chain(&self) -> usize {
+        self.states
+            .iter()
+            .map(|state| how_many_end(self.words, state))
+            .max()
+            .unwrap_or(0)
+    }
+
+    // The child of `parent` whose letter is the least of those after the given one, or of all.
+    fn next_child(&self, parent: &[u8], given: Option<&u8>) -> Option<usize> {
+        self.states
+            .iter()
+            .enumerate()
+            .filter(|(_, state)| is_child(state, parent) && given < state.last())
+            .min_by_key(|(_, state)| state.last())
+            .map(|(s, _)| s)
+    }
+
+    fn next_sibling(&self, state: &[u8]) -> Option<usize> {
+        let (last, parent) = state.split_last()?;
+        self.next_child(parent, Some(last))
+    }
+
+    // The number of the longest proper suffix that is a state.
+    fn border(&self, state: &[u8]) -> Option<usize> {
+        let (_, rest) = state.split_first()?;
+        self.state_number(longest_suffix(self.states.as_slice(), rest)?)
+    }
+
+    // The state number of the longest proper suffix that is a word.
+    fn link(&self, state: &[u8]) -> Option<usize> {
+        let (_, rest) = state.split_first()?;
+        self.state_number(longest_suffix(self.words, rest)?)
+    }
+
+    // The numbers of a row.
+    fn row(&self, state: &[u8]) -> [u64; 8] {
+        [
+            state.last().map_or(NONE, |letter| u64::from(*letter)),
+            number_or_none(self.next_child(state, None)),
+            number_or_none(self.next_sibling(state)),
+            state.len() as u64,
+            number_or_none(find(self.words, state)),
+            number_or_none(self.border(state)),
+            number_or_none(self.link(state)),
+            how_many_end(self.words, state) as u64,
+        ]
+    }
+
+    // Mixes in the numbers of words and states, r, and the first `width` numbers of each row.
+    pub fn mix_table(&self, sum: &mut Checksum, width: usize) {
+        sum.mix(self.words.len() as u64);
+        sum.mix(self.states.len() as u64);
+        sum.mix(self.greatest_chain() as u64);
+        for state in &self.states {
+            mix_row(sum, self.row(state), width);
         }
     }
-    all
-}
 
-pub fn states_of(letters: &[u8; 64], words: Parts) -> Parts {
-    let count = words.count;
-    let mut states = with_part(no_parts(), Part { from: 0, len: 0 });
-    for k in 0..count {
-        states = with_prefixes(letters, states, part_at(words, k));
-    }
-    states
-}
-
-// r: the greatest number of words that are suffixes of one state.
-fn greatest_chain(letters: &[u8; 64], words: Parts, states: Parts) -> u64 {
-    let count = states.count;
-    let mut greatest = 0;
-    for s in 0..count {
-        let p = part_at(states, s);
-        let n = how_many_end(letters, words, letters, end_of(p), p.len);
-        if greatest < n {
-            greatest = n;
+    // Mixes in the state column: at each position of the text the longest suffix that is a state. The empty state is always one.
+    pub fn mix_states(&self, sum: &mut Checksum, text: &[u8]) {
+        for end in 0..=text.len() {
+            let state = longest_suffix(self.states.as_slice(), &text[..end]);
+            sum.mix(number_or_none(state.and_then(|s| self.state_number(s))));
         }
     }
-    greatest
-}
-
-// The last letter of a state; 65,535 of the empty one.
-fn last_letter(letters: &[u8; 64], state: Part) -> usize
-    ensures { result < 65536 }
-{
-    let len = state.len;
-    if len == 0 {
-        return NONE;
-    }
-    wide(byte_at(letters, state.from, len - 1))
-}
-
-// A nonempty state without its last letter.
-fn parent_of(state: Part) -> Part {
-    let len = state.len;
-    if len == 0 {
-        return state;
-    }
-    Part {
-        from: state.from,
-        len: len - 1,
-    }
-}
-
-// Whether `state` is `parent` and one letter more.
-fn is_child(letters: &[u8; 64], state: Part, parent: Part) -> bool {
-    if state.len == 0 {
-        return false;
-    }
-    is_part(letters, parent_of(state), letters, parent.from, parent.len)
-}
-
-// The child of `parent` with the least letter that is `least` or more.
-fn child_from(letters: &[u8; 64], states: Parts, parent: Part, least: usize) -> usize {
-    let count = states.count;
-    let mut child = NONE;
-    let mut bound = 256;
-    for s in 0..count {
-        let p = part_at(states, s);
-        let letter = last_letter(letters, p);
-        if is_child(letters, p, parent) && least <= letter && letter < bound {
-            child = s;
-            bound = letter;
-        }
-    }
-    child
-}
-
-fn next_sibling(letters: &[u8; 64], states: Parts, state: Part) -> usize {
-    if state.len == 0 {
-        return NONE;
-    }
-    let least = last_letter(letters, state) + 1;
-    child_from(letters, states, parent_of(state), least)
-}
-
-// The number of the longest proper suffix that is a state.
-fn border(letters: &[u8; 64], states: Parts, state: Part) -> usize {
-    let len = state.len;
-    if len == 0 {
-        return NONE;
-    }
-    longest_before(letters, states, letters, end_of(state), len - 1)
-}
-
-// The state number of the longest proper suffix that is a word.
-fn link(letters: &[u8; 64], words: Parts, states: Parts, state: Part) -> usize {
-    let len = state.len;
-    if len == 0 {
-        return NONE;
-    }
-    let w = longest_before(letters, words, letters, end_of(state), len - 1);
-    if w == NONE {
-        return NONE;
-    }
-    let word = part_at(words, w);
-    find(letters, states, letters, word.from, word.len)
-}
-
-// The sum with one row's numbers: the last of eight is how many words are its suffixes, and is left out of seven.
-fn mixed_row(
-    h: u64,
-    letters: &[u8; 64],
-    words: Parts,
-    states: Parts,
-    s: usize,
-    width: usize,
-) -> u64 {
-    let state = part_at(states, s);
-    let h1 = mixed(h, last_letter(letters, state) as u64);
-    let h2 = mixed(h1, child_from(letters, states, state, 0) as u64);
-    let h3 = mixed(h2, next_sibling(letters, states, state) as u64);
-    let h4 = mixed(h3, state.len as u64);
-    let h5 = mixed(
-        h4,
-        find(letters, words, letters, state.from, state.len) as u64,
-    );
-    let h6 = mixed(h5, border(letters, states, state) as u64);
-    let h7 = mixed(h6, link(letters, words, states, state) as u64);
-    if width < 8 {
-        return h7;
-    }
-    mixed(
-        h7,
-        how_many_end(letters, words, letters, end_of(state), state.len),
-    )
-}
-
-fn mixed_rows(h: u64, letters: &[u8; 64], words: Parts, states: Parts, width: usize) -> u64 {
-    let count = states.count;
-    let mut sum = h;
-    for s in 0..count {
-        sum = mixed_row(sum, letters, words, states, s, width);
-    }
-    sum
-}
-
-// The sum with the numbers of words and states, r, and the rows, of so many numbers each.
-pub fn mixed_table(h: u64, letters: &[u8; 64], words: Parts, states: Parts, width: usize) -> u64 {
-    let h1 = mixed(mixed(h, words.count as u64), states.count as u64);
-    let h2 = mixed(h1, greatest_chain(letters, words, states));
-    mixed_rows(h2, letters, words, states, width)
 }

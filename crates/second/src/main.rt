@@ -1,6 +1,7 @@
 // A second computation of the library's answers for a fixed family of small cases, by plain search
 // and with none of the library's code: every suffix is tried against every word or state. It prints
-// a running checksum, to be compared with that of `many`, which goes through the library.
+// a running checksum, to be compared with that of `many`, which goes through the library. Both take the
+// cases and the checksum from the crate `cases`, and share no other code.
 //
 // Random numbers: a state x, at first 20260114. `rnd(n)`, for n of 1 or more, makes x
 // (x * 1103515245 + 12345) % 2147483648, and gives (x / 65536) % n.
@@ -46,93 +47,68 @@
 // fields. So there are 40 lines.
 #![tactic(auto)]
 
+ghost use Rattle.std.specs.Prelude.{◌≤◌, length};
+ghost use Rattle.std.specs.List.{sum_by};
+
 mod automaton;
-mod family;
-mod letters;
 mod readings;
+mod records;
+mod refusal;
 mod scan;
 mod strings;
-mod sum;
 
-use automaton::{mixed_table, parse, states_of};
-use family::{damaged, random_map, random_records, random_text, rnd};
-use letters::mapped;
-use readings::{mixed_listed, mixed_numbered};
-use scan::{counts_of, mixed_counts, mixed_scan, mixed_states};
+use automaton::Automaton;
+use cases::{CASES, Case, Checksum, FIRST_STATE, next_case};
+use readings::{mix_listed, mix_numbered};
+use records::{mapped, parse};
+use refusal::{Reason, Refusal};
+use scan::{counts_of, mix_scan};
 use std::io;
-use strings::Parts;
-use sum::mixed;
 
-// The sum with what the text's scan and readings give.
-fn mixed_text(h: u64, letters: &[u8; 64], words: Parts, text: &[u8; 64], len: usize) -> u64 {
-    let counts = counts_of(letters, words, text, len);
-    let h1 = mixed_counts(h, counts, len);
-    let h2 = mixed_scan(h1, letters, words, text, len, counts);
-    let h3 = mixed_listed(h2, letters, words, text, len);
-    mixed_numbered(h3, letters, words, text, len)
-}
-
-fn mixed_refusal(h: u64, number: usize, place: usize) -> u64 {
-    mixed(mixed(mixed(h, 1), number as u64), place as u64)
-}
-
-// The sum with what accepted words and a text give.
-fn mixed_words(h: u64, letters: &[u8; 64], words: Parts, text: &[u8; 64], len: usize) -> u64 {
-    let states = states_of(letters, words);
-    let h1 = mixed_table(mixed(h, 0), letters, words, states, 8);
-    let h2 = mixed_table(h1, letters, words, states, 7);
-    let h3 = mixed_table(h2, letters, words, states, 8);
-    let h4 = mixed_states(h3, letters, states, text, len);
-    mixed_text(h4, letters, words, text, len)
-}
-
-// The sum with what one case gives. After the records are parsed only letters count.
-fn mixed_case(
-    h: u64,
-    map: &[u8; 257],
-    map_len: usize,
-    d: &[u8; 64],
-    d_len: usize,
-    t: &[u8; 64],
-    t_len: usize,
-) -> u64 {
-    if map_len != 256 {
-        return mixed_refusal(h, 18, 0);
+// Mixes in what accepted words and a text give.
+fn mix_words(sum: &mut Checksum, words: &[&[u8]], text: &[u8])
+    requires words { sum_by (λ word. length word.now) words.now ≤ 42 }
+    requires text { length text.now ≤ 16 }
+{
+    let automaton = Automaton::of(words);
+    for width in [8, 7, 8] {
+        automaton.mix_table(sum, width);
     }
-    let letters = mapped(map, d);
-    let got = parse(d, &letters, d_len);
-    if got.refusal != 0 {
-        return mixed_refusal(h, got.refusal, got.place);
+    automaton.mix_states(sum, text);
+    mix_scan(sum, words, text, counts_of(words, text).as_slice());
+    mix_listed(sum, words, text);
+    mix_numbered(sum, words, text);
+}
+
+// Mixes in what one case gives, if it isn't refused. After the records are parsed only letters count.
+fn mix_answers(sum: &mut Checksum, case: &Case) -> Result<(), Refusal> {
+    let map = <&[u8; 256]>::try_from(case.map.as_slice()).map_err(|_| Refusal {
+        reason: Reason::MapLength,
+        place: 0,
+    })?;
+    let letters = mapped(map, &case.dictionary);
+    let words = parse(case.dictionary.as_slice(), letters.as_slice())?;
+    let text = mapped(map, &case.text);
+    sum.mix(0);
+    mix_words(sum, words.as_slice(), text.as_slice());
+    Ok(())
+}
+
+// Mixes in what one case gives.
+fn mix_case(sum: &mut Checksum, case: &Case) {
+    if let Err(refusal) = mix_answers(sum, case) {
+        sum.mix(1);
+        refusal.mix(sum);
     }
-    let text = mapped(map, t);
-    mixed_words(h, &letters, got.words, &text, t_len)
-}
-
-fn next_case(x: &mut usize, h: u64) -> u64 {
-    let letters = 2 + rnd(x, 2);
-    let words = rnd(x, 7);
-    let made = random_records(x, words, letters);
-    let dictionary = damaged(x, made.records);
-    let records = made.records.at;
-    let text = random_text(x, &records, made.words, letters);
-    let map = random_map(x);
-    let m = map.at;
-    let d = dictionary.at;
-    let t = text.at;
-    mixed_case(h, &m, map.len, &d, dictionary.len, &t, text.len)
-}
-
-fn print_line(rt: &impl Print, cases: u64, h: u64) -> io::Result<()> {
-    println!(rt; "cases {cases} {h}")
 }
 
 fn main(rt: HostRuntime) -> io::Result<()> {
-    let mut x = 20260114;
-    let mut h = 0;
-    for c in 0..4000 {
-        h = next_case(&mut x, h);
-        if c % 100 == 99 {
-            print_line(&rt, c + 1, h)?;
+    let mut x = FIRST_STATE;
+    let mut sum = Checksum::default();
+    for c in 1..=CASES {
+        mix_case(&mut sum, &next_case(&mut x));
+        if c % 100 == 0 {
+            println!(rt; "cases {c} {}", sum.h)?;
         }
     }
     Ok(())

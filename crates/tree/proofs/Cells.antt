@@ -3,13 +3,11 @@ use mathlib.Core.Path.{◌≡◌, refl, ◌∙◌}
 use mathlib.Core.List.{List, [], ◌∷◌}
 use Prim.Native.Nat.{ℕ, zero, suc, ◌+◌, ◌*◌, ◌≤◌, ◌<◌}
 use native.Mathlib.Nat.{add-zero, add-suc, suc-add}
-use native.Mathlib.Numerals.{towards_suc}
 use native.Mathlib.Omega.{arith}
 use lib.ListN.{length, get_or, set, length-set}
 use lib.Seq.{get_or-set_same, get_or-set_other, sets}
-use Rattle.meaning.specs.Numbers.{absent}
 use Rattle.meaning.specs.Table.{width}
-use Rattle.tree.specs.Layout.{field_at, set_field, HasRow, new_row}
+use Rattle.tree.specs.Layout.{field_at, set_field, HasRow}
 
 pub set_here : (t : List ℕ) (s j v : ℕ) → j < width → HasRow t s → field_at (set_field t s j v) s j ≡ v
 set_here t s j v h r = get_or-set_same t (width * s + j) v 0 (omega arith)
@@ -47,14 +45,3 @@ module _ (t : List ℕ) (n : ℕ) (vs : List ℕ) (full : length vs ≡ width) (
 
   pub row_past : (i : ℕ) → width * suc n ≤ i → get_or (sets t (width * n) vs) i 0 ≡ get_or t i 0
   row_past i l = sets_past vs t (width * n) i (omega arith)
-
--- eight stores make a row
-stores_row : (t : List ℕ) (n a next d : ℕ)
-    → set_field (set_field (set_field (set_field (set_field (set_field (set_field (set_field t n 0 a) n 1 absent) n 2 next) n 3 d) n 4 absent) n 5 absent) n 6 absent) n 7 0
-    ≡ sets t (width * n) (new_row a next d)
-stores_row t n a next d = simp (add-zero, towards_suc)
-
-pub row_written : (t : List ℕ) (n a next d : ℕ) {t₁ t₂ t₃ t₄ t₅ t₆ t₇ t₈ : List ℕ} → t₁ ≡ set_field t n 0 a → t₂ ≡ set_field t₁ n 1 absent
-    → t₃ ≡ set_field t₂ n 2 next → t₄ ≡ set_field t₃ n 3 d → t₅ ≡ set_field t₄ n 4 absent → t₆ ≡ set_field t₅ n 5 absent
-    → t₇ ≡ set_field t₆ n 6 absent → t₈ ≡ set_field t₇ n 7 0 → t₈ ≡ sets t (width * n) (new_row a next d)
-row_written t n a next d e₁ e₂ e₃ e₄ e₅ e₆ e₇ e₈ = cc (stores_row t n a next d)

@@ -4,7 +4,7 @@ use mathlib.Core.Option.{none, some}
 use mathlib.Core.List.{List, [], ◌∷◌}
 use Prim.Native.Nat.{ℕ, ◌<◌}
 use native.Mathlib.Omega.{arith}
-use lib.ListN.{length, get_or}
+use lib.ListN.{length}
 use borrow.Author.Tests.{ne_eqb}
 use Rattle.meaning.specs.Numbers.{letter_values, absent}
 use Rattle.meaning.specs.Words.{Word, Words, snoc, find, word}
@@ -13,12 +13,15 @@ use Rattle.meaning.specs.Table.{stored, depth_field, border_field}
 use Rattle.meaning.proofs.Find.{Asked, got, lacks, ask, some_inj, find_some}
 use Rattle.meaning.proofs.States.{Bounded}
 use Rattle.meaning.proofs.Suffixes.{border_exists, border_step, border_first, step_child, step_border, step_root, proper_inside, proper_shorter}
-use Rattle.meaning.proofs.Rows.{stored_none, stored_some}
+use Rattle.std.specs.Prelude.{Some}
+use Rattle.tree.specs.Found.{found}
 use Rattle.tree.specs.Layout.{field_at}
 use Rattle.tree.specs.Tree.{Right, Tree, border_of}
+use Rattle.tree.specs.declared.index.ChildIndex.{ChildIndex}
+use Rattle.tree.specs.Index.{cell, IndexedAt}
 use Rattle.tree.specs.Filling.{root_step, Bordered}
+use Rattle.tree.proofs.Found.{some_is}
 use Rattle.tree.proofs.Walk.{found_small}
-use Rattle.tree.proofs.Blocks.{root_cell}
 
 -- the string of state 0 is empty, and of no other
 pub root_word : {S : Words} → Bounded S → word S 0 ≡ []
@@ -56,11 +59,11 @@ higher {S = S} {t} τ {v} {w} l right i f = go (word S v) refl
         })
 
 -- .. and the borders up to its depth are right
-pub record Up (X S : Words) (t index : List ℕ) (v w : ℕ) : Type 0 where
+pub record Up (X S : Words) (t : List ℕ) (index : ChildIndex) (v w : ℕ) : Type 0 where
   pub step : Higher S t v w
   pub bordered : Bordered X S t index w
 
-pub up : {X S : Words} {t index : List ℕ} {v w : ℕ} → Bordered X S t index v → w ≡ field_at t v border_field → (v ≡ 0 → ⊥) → Up X S t index v w
+pub up : {X S : Words} {t : List ℕ} {index : ChildIndex} {v w : ℕ} → Bordered X S t index v → w ≡ field_at t v border_field → (v ≡ 0 → ⊥) → Up X S t index v w
 up {v = v} β i f =
     let h = higher β.tree β.inside (β.borders v β.inside (omega arith)) i f in
     record {
@@ -74,13 +77,9 @@ up {v = v} β i f =
     }
 
 -- one step of the climb, by what the child by a is
-module _ {X S : Words} {t index : List ℕ} {v : ℕ} (β : Bordered X S t index v) (a : ℕ) where
-  module _ {c : ℕ} (e : c ≡ stored (find S (snoc (word S v) a))) where
-    pub by_child : (c ≡ absent → ⊥) → nearest S S (snoc (word S v) a) ≡ some c
-    by_child f = step_child S β.tree.states.trie (word S v) a c (stored_some _ e f)
-
-    pub no_child : c ≡ absent → find S (snoc (word S v) a) ≡ none
-    no_child f = stored_none _ (λ n q. found_small β.tree _ q) e f
+module _ {X S : Words} {t : List ℕ} {index : ChildIndex} {v : ℕ} (β : Bordered X S t index v) (a : ℕ) where
+  pub by_child : {c : ℕ} → Some c ≡ found (find S (snoc (word S v) a)) → nearest S S (snoc (word S v) a) ≡ some c
+  by_child {c} e = step_child S β.tree.states.trie (word S v) a c (some_is _ e)
 
   pub by_border : find S (snoc (word S v) a) ≡ none → {w : ℕ} → Up X S t index v w
       → nearest S S (snoc (word S v) a) ≡ nearest S S (snoc (word S w) a)
@@ -96,14 +95,22 @@ module _ {X S : Words} {t index : List ℕ} {v : ℕ} (β : Bordered X S t index
   pub by_index : a < letter_values → v ≡ 0 → nearest S S (snoc (word S v) a) ≡ some (root_step index a)
   by_index byte e = rw (e, root_word β.tree.states) (go (ask (find S (snoc [] a))))
     where
-      there : get_or index a 0 ≡ stored (find S (snoc [] a))
-      there = root_cell β.indexed a byte
+      there : cell index 0 a ≡ stored (find S (snoc [] a))
+      there = β.indexed.blocks 0 (omega arith) a byte
 
       go : Asked (find S (snoc [] a)) → nearest S S (snoc [] a) ≡ some (root_step index a)
       go (got n q) =
-          let i : get_or index a 0 ≡ n = there ∙ ap stored q in
+          let i : cell index 0 a ≡ n = there ∙ ap stored q in
           let small = found_small β.tree (snoc [] a) q in
           step_child S β.tree.states.trie [] a n q ∙ ap some (sym (rw (i, ne_eqb n absent (λ z. omega arith))))
       go (lacks q) =
-          let i : get_or index a 0 ≡ absent = there ∙ ap stored q in
+          let i : cell index 0 a ≡ absent = there ∙ ap stored q in
           step_root S β.tree.states.trie a q ∙ ap some (sym (rw i))
+
+-- v is on the climb from u along borders, and the state looked for is the nearest one after v's string and a
+pub record Climbing (X S : Words) (t : List ℕ) (index : ChildIndex) (u : Word) (a v : ℕ) : Type 0 where
+  pub here : Bordered X S t index v
+  pub is : nearest S S (snoc u a) ≡ nearest S S (snoc (word S v) a)
+
+pub indexed_here : {X S : Words} {t : List ℕ} {index : ChildIndex} {v : ℕ} → Bordered X S t index v → IndexedAt X S t index v
+indexed_here β = record { at = record { tree = β.tree; inside = β.inside }; indexed = β.indexed }

@@ -19,13 +19,16 @@ use Rattle.meaning.proofs.Find.{find_some, find_new, find_other}
 use Rattle.meaning.proofs.States.{Bounded, WordsIn, Placed, before, at_end, placed, add_old, add_new, add_bounded, add_words}
 use Rattle.meaning.proofs.Children.{NoChild, child_from_new, child_from_leaf, last_letter_snoc, sibling_snoc, sibling_new}
 use Rattle.meaning.proofs.Rows.{stored_some}
+use Rattle.std.specs.Prelude.{Option, Some, None, IfSome, unwrap_or}
 use Rattle.tree.specs.Layout.{field_at, set_field, HasRow, new_row}
 use Rattle.tree.specs.Tree.{Column, Tree, Blank}
-use Rattle.tree.specs.Index.{Indexed, IndexedAt, Based}
+use Rattle.tree.specs.declared.index.ChildIndex.{ChildIndex}
+use Rattle.tree.specs.Index.{cell, Indexed, IndexedAt, Based}
 use Rattle.tree.specs.Insertion.{Holder, own, child, Sought, attached, known_child, noted, rowed, Growing, Open, Reaching}
 use Rattle.tree.proofs.Cells.{set_here, set_past, row_here, row_before, row_past}
-use Rattle.tree.proofs.Walk.{state_row, found_small}
-use Rattle.tree.proofs.Blocks.{cell, claim_indexed, note_indexed}
+use Rattle.tree.proofs.Found.{none_some, present_some}
+use Rattle.tree.proofs.Walk.{state_row, sought_stored}
+use Rattle.tree.proofs.Blocks.{child_cell, claim_indexed, note_indexed}
 use Rattle.tree.proofs.NewState.{first_kept, next_kept}
 
 -- t' is t with the numbers vs as a new row n, and then n in the field g of an earlier row o
@@ -71,7 +74,7 @@ record Pointers (S R : Words) (t : List ℕ) : Type 0 where
   children : Column S t child_field (λ v. stored (first_child R v))
   siblings : Column S t sibling_field (λ v. stored (next_sibling R v))
 
-module _ {X S : Words} {t index : List ℕ} {n p a d : ℕ} (ω : Open X S t index n p a d) where
+module _ {X S : Words} {t : List ℕ} {index : ChildIndex} {n p a d : ℕ} (ω : Open X S t index n p a d) where
   τ : Tree X S t
   τ = ω.growing.tree
 
@@ -89,24 +92,26 @@ module _ {X S : Words} {t index : List ℕ} {n p a d : ℕ} (ω : Open X S t ind
       }
 
   -- the index knows it
-  module _ {base : ℕ} (β : Based index (word S p) base) where
-    pub index_known : {q : ℕ} → q ≡ known_child index base a → q ≢ absent → find S (branch S p a) ≡ some q
-    index_known {q} e f = go (ℕ_discrete base absent)
+  module _ {block : Option ℕ} (β : Based index (word S p) block) where
+    pub index_known : {q : ℕ} → Some q ≡ known_child index block a → find S (branch S p a) ≡ some q
+    index_known {q} e = go block refl e
       where
-        go : Dec (base ≡ absent) → find S (branch S p a) ≡ some q
-        go (yes z) = absurd (f (e ∙ rw (eq-eqb base absent z)))
-        go (no d) = stored_some _ (e ∙ rw (ne_eqb base absent d) (cell ω.growing.indexed β d ω.byte)) f
+        go : (o : Option ℕ) → o ≡ block → Some q ≡ known_child index o a → find S (branch S p a) ≡ some q
+        go None i f = none_some (sym f)
+        go (Some k) i f =
+            let h = present_some (cell index k a) f in
+            stored_some _ (sym h.same ∙ child_cell ω.growing.indexed β i ω.byte) (λ z. h.there (h.same ∙ z))
 
   pub parent : IndexedAt X S t index p
   parent = record { at = record { tree = τ; inside = ω.inside }; indexed = ω.growing.indexed }
 
   -- the row that holds the pointer
-  pub holder_row : {o next : ℕ} → Sought S (word S p) a o next → o ≢ absent → HasRow t o
-  holder_row σ f = go σ.holder f
+  pub holder_row : {o next : Option ℕ} → Sought S (word S p) a o next → (t' : List ℕ) → length t' ≡ length t → IfSome o (λ b. HasRow t' b)
+  holder_row σ t' same = go σ.holder
     where
-      go : {from o : ℕ} → Holder S (word S p) from o → o ≢ absent → HasRow t o
-      go own f = absurd (f refl)
-      go (child b q e) f = state_row τ (find_some S (snoc (word S p) b) q e).inside
+      go : {from : ℕ} {o : Option ℕ} → Holder S (word S p) from o → IfSome o (λ b. HasRow t' b)
+      go own = tt
+      go (child b q e) = omega (arith, same, state_row τ (find_some S (snoc (word S p) b) q e).inside)
 
   module _ (fresh : find S (branch S p a) ≡ none) where
     size : length (add S (branch S p a)) ≡ suc n
@@ -207,10 +212,10 @@ module _ {X S : Words} {t index : List ℕ} {n p a d : ℕ} (ω : Open X S t ind
               ∙ ap stored (sym (next_kept S (word S p) fresh (child b q h) low gap (word S s) s (once l) (λ c e z. i (cc (once l)))))
 
     -- the index with it
-    grow_index : {base : ℕ} → Based index (word S p) base → Indexed (grown S p a) (rowed (noted index base a n) p a)
-    grow_index {base} β = go (ℕ_discrete p 0)
+    grow_index : {block : Option ℕ} → Based index (word S p) block → Indexed (grown S p a) (rowed (noted index block a n) p a)
+    grow_index {block} β = go (ℕ_discrete p 0)
       where
-        ι : Indexed (grown S p a) (noted index base a n)
+        ι : Indexed (grown S p a) (noted index block a n)
         ι = note_indexed ω.growing.indexed fresh ω.byte β ω.growing.count
 
         -- a child of the root has no child yet
@@ -219,16 +224,16 @@ module _ {X S : Words} {t index : List ℕ} {n p a d : ℕ} (ω : Open X S t ind
             find_other S (branch S p a) (snoc (snoc [] a) c) (λ q. omega (arith, ap length q, snoc-length (word S p) a, ap length e))
             ∙ τ.states.trie.closed (snoc [] a) c (ap (λ (v : Word). find S (snoc v a)) (sym e) ∙ fresh)
 
-        go : Dec (p ≡ 0) → Indexed (grown S p a) (rowed (noted index base a n) p a)
+        go : Dec (p ≡ 0) → Indexed (grown S p a) (rowed (noted index block a n) p a)
         go (yes e) =
             rw (eq-eqb p 0 e)
             (claim_indexed states_new ι ω.byte (leaf (ap (word S) e ∙ (find_some S [] 0 τ.states.trie.root).reads)))
         go (no i) = rw (ne_eqb p 0 i) ι
 
     -- it is added
-    reach_new : {base : ℕ} → Based index (word S p) base → {o next : ℕ} → Sought S (word S p) a o next
-        → Reaching X S (word S p) a t (attached (sets t (width * n) (new_row a next d)) p o n) (rowed (noted index base a n) p a) n (suc n)
-    reach_new {base} β {next = next} σ = go σ.holder σ.low σ.gap
+    reach_new : {block : Option ℕ} → Based index (word S p) block → {o next : Option ℕ} → Sought S (word S p) a o next → {r : ℕ} → r ≡ stored (child_from S (word S p) a)
+        → Reaching X S (word S p) a t (attached (sets t (width * n) (new_row a r d)) p o n) (rowed (noted index block a n) p a) n (suc n)
+    reach_new {block} β σ {r = next} next_is = go σ.holder σ.low σ.gap
       where
         R : Words
         R = grown S p a
@@ -238,16 +243,16 @@ module _ {X S : Words} {t index : List ℕ} {n p a d : ℕ} (ω : Open X S t ind
 
         adds : (o g : ℕ) → o < length S → (letter_field < g) × (g < depth_field)
             → (Added t (set_field t₁ o g n) n (new_row a next d) o g → Pointers S R (set_field t₁ o g n))
-            → Reaching X S (word S p) a t (set_field t₁ o g n) (rowed (noted index base a n) p a) n (suc n)
+            → Reaching X S (word S p) a t (set_field t₁ o g n) (rowed (noted index block a n) p a) n (suc n)
         adds o g old h π =
             let r = added t n (new_row a next d) o g refl new_room (omega (arith, ω.growing.count)) (omega arith) in
             let e : R ≡ add S (branch S p a) = sym (add_new S (branch S p a) fresh) in
             record {
               growing =
-                  subst (λ (Y : Words). Growing X Y (set_field t₁ o g n) (rowed (noted index base a n) p a) (suc n)) e
+                  subst (λ (Y : Words). Growing X Y (set_field t₁ o g n) (rowed (noted index block a n) p a) (suc n)) e
                   (record {
-                    tree = grow_tree σ.next_is r h (π r);
-                    blank = grow_blank σ.next_is r h (π r);
+                    tree = grow_tree next_is r h (π r);
+                    blank = grow_blank next_is r h (π r);
                     indexed = grow_index β;
                     count = ap suc ω.growing.count ∙ sym (snoc-length S (branch S p a));
                   });
@@ -257,15 +262,15 @@ module _ {X S : Words} {t index : List ℕ} {n p a d : ℕ} (ω : Open X S t ind
               past = r.past;
             }
 
-        go : {from o : ℕ} → Holder S (word S p) from o → from ≤ a → NoChild S (word S p) from a
-            → Reaching X S (word S p) a t (attached t₁ p o n) (rowed (noted index base a n) p a) n (suc n)
+        go : {from : ℕ} {o : Option ℕ} → Holder S (word S p) from o → from ≤ a → NoChild S (word S p) from a
+            → Reaching X S (word S p) a t (attached t₁ p o n) (rowed (noted index block a n) p a) n (suc n)
         go own low gap = adds p child_field ω.inside (omega arith) (in_parent gap)
         go (child b q e) low gap =
             let f = find_some S (snoc (word S p) b) q e in
-            rw (ne_eqb q absent (λ z. omega (arith, found_small τ (snoc (word S p) b) e)))
-            (adds q sibling_field f.inside (omega arith) (in_child b q e low gap))
+            adds q sibling_field f.inside (omega arith) (in_child b q e low gap)
 
-    pub reach_added : {base : ℕ} → Based index (word S p) base → {o next : ℕ} → Sought S (word S p) a o next
-        → {t₁ t₂ index₁ index₂ : List ℕ} → t₁ ≡ sets t (width * n) (new_row a next d) → t₂ ≡ attached t₁ p o n
-        → index₁ ≡ noted index base a n → index₂ ≡ rowed index₁ p a → Reaching X S (word S p) a t t₂ index₂ n (n + 1)
-    reach_added β σ e₁ e₂ e₃ e₄ = rw (add-one n, e₄, e₃, e₂, e₁) (reach_new β σ)
+    pub reach_added : {block : Option ℕ} → Based index (word S p) block → {o next : Option ℕ} → Sought S (word S p) a o next
+        → {r : ℕ} → r ≡ unwrap_or next absent
+        → {t₁ t₂ : List ℕ} {index₁ index₂ : ChildIndex} → t₁ ≡ sets t (width * n) (new_row a r d) → t₂ ≡ attached t₁ p o n
+        → index₁ ≡ noted index block a n → index₂ ≡ rowed index₁ p a → Reaching X S (word S p) a t t₂ index₂ n (n + 1)
+    reach_added β σ e e₁ e₂ e₃ e₄ = rw (add-one n, e₄, e₃, e₂, e₁) (reach_new β σ (e ∙ sought_stored τ σ))

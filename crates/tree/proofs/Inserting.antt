@@ -18,6 +18,7 @@ use Rattle.meaning.proofs.Find.{none_or_some, FirstAt, find_some, find_new, find
 use Rattle.meaning.proofs.States.{extends_length, add_extends, add_all-append, add_all_extends, prefixes_snoc, prefixes-append}
 use Rattle.tree.specs.Layout.{field_at, set_field, HasRow}
 use Rattle.tree.specs.Tree.{Column}
+use Rattle.tree.specs.declared.index.ChildIndex.{ChildIndex}
 use Rattle.tree.specs.Insertion.{Growing, Open, Reaching, Insertable, Inserted}
 use Rattle.tree.proofs.Walk.{state_row}
 use Rattle.tree.proofs.Cells.{set_here, set_other_field, set_other_row, set_past}
@@ -43,13 +44,13 @@ within S w i =
     rw e (extends_length (add_all_extends (states_to S w i) (prefixes (take i w) (drop i w))))
 
 -- the table t has the first i letters of w, as the state p of n states; past the rows it is t₀
-pub record Partly (X S : Words) (w : Word) (i : ℕ) (t₀ t index : List ℕ) (p n : ℕ) : Type 0 where
+pub record Partly (X S : Words) (w : Word) (i : ℕ) (t₀ t : List ℕ) (index : ChildIndex) (p n : ℕ) : Type 0 where
   pub growing : Growing X (states_to S w i) t index n
   pub here : find (states_to S w i) (take i w) ≡ some p
   pub past : (j : ℕ) → width * n ≤ j → get_or t j 0 ≡ get_or t₀ j 0
 
 -- the number k of the word w, which is the state p
-module _ {X S : Words} {t index : List ℕ} {n : ℕ} (γ : Growing X S t index n) (w : Word) {p k : ℕ} (here : find S w ≡ some p)
+module _ {X S : Words} {t : List ℕ} {index : ChildIndex} {n : ℕ} (γ : Growing X S t index n) (w : Word) {p k : ℕ} (here : find S w ≡ some p)
     (new : find X w ≡ none) (nonempty : 1 ≤ length w) (number : k ≡ length X) (few : k < most_words) where
   kept : (j : ℕ) (f : Word → ℕ) → (j < width) × (j ≢ word_field) → Column S t j f → Column S (set_field t p word_field k) j f
   kept j f h c s l = set_other_field t p word_field k s j (omega arith) h.0 h.1 ∙ c s l
@@ -94,11 +95,11 @@ module _ {X S : Words} {t index : List ℕ} {n : ℕ} (γ : Growing X S t index 
     count = γ.count;
   }
 
-module _ {X S : Words} {t₀ index₀ : List ℕ} {n₀ k : ℕ} {w : Word} (γ : Insertable X S t₀ index₀ n₀ w k) where
+module _ {X S : Words} {t₀ : List ℕ} {index₀ : ChildIndex} {n₀ k : ℕ} {w : Word} (γ : Insertable X S t₀ index₀ n₀ w k) where
   pub start : Partly X S w 0 t₀ t₀ index₀ 0 n₀
   start = record { growing = γ.growing; here = γ.growing.tree.states.trie.root; past = λ j l. refl }
 
-  module _ {i : ℕ} {t index : List ℕ} {p n : ℕ} (φ : Partly X S w i t₀ t index p n) where
+  module _ {i : ℕ} {t : List ℕ} {index : ChildIndex} {p n : ℕ} (φ : Partly X S w i t₀ t index p n) where
     at : FirstAt (states_to S w i) (take i w) p
     at = find_some (states_to S w i) (take i w) p φ.here
 
@@ -121,12 +122,12 @@ module _ {X S : Words} {t₀ index₀ : List ℕ} {n₀ k : ℕ} {w : Word} (γ 
         few = omega (arith, ap length grows, within S w (suc i), γ.few);
       }
 
-      rows : {t' index' : List ℕ} {p' n' : ℕ} → Reaching X (states_to S w i) (word (states_to S w i) p) a t t' index' p' n' → n ≤ n'
+      rows : {t' : List ℕ} {index' : ChildIndex} {p' n' : ℕ} → Reaching X (states_to S w i) (word (states_to S w i) p) a t t' index' p' n' → n ≤ n'
       rows r =
           let more-states = extends_length (add_extends (states_to S w i) (snoc (word (states_to S w i) p) a)) in
           omega (arith, r.growing.count, φ.growing.count)
 
-      pub reaches : {t' index' : List ℕ} {p' n' : ℕ} → Reaching X (states_to S w i) (word (states_to S w i) p) a t t' index' p' n'
+      pub reaches : {t' : List ℕ} {index' : ChildIndex} {p' n' : ℕ} → Reaching X (states_to S w i) (word (states_to S w i) p) a t t' index' p' n'
           → Partly X S w (i + 1) t₀ t' index' p' n'
       reaches {t'} {index'} {p'} {n'} r =
           rw add-one

@@ -1,4 +1,5 @@
 pub mod Cells
+pub mod Found
 pub mod Walk
 pub mod Blocks
 pub mod Climb
@@ -7,5 +8,4 @@ pub mod NewState
 pub mod Grow
 pub mod Inserting
 pub mod Chain
-pub mod Copied
 pub mod Whole

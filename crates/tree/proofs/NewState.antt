@@ -5,6 +5,7 @@ use mathlib.Core.Option.{none, some}
 use Prim.Native.Nat.{ℕ, suc, ◌≤◌, ◌<◌}
 use native.Mathlib.Decide.{dec_lt}
 use native.Mathlib.Omega.{arith}
+use Rattle.std.specs.Prelude.{Option}
 use Rattle.meaning.specs.Words.{Word, Words, snoc, find}
 use Rattle.meaning.specs.Table.{child_from, first_child, next_sibling}
 use Rattle.meaning.proofs.Lists.{trichotomy, Snoc, nothing, last, snoc_view}
@@ -13,12 +14,12 @@ use Rattle.meaning.proofs.Children.{NoChild, child_from_elsewhere, child_from_ab
 use Rattle.tree.specs.Insertion.{Holder, own, child}
 
 -- the pointer to the child from `from` on is the one that changes; each other stays
-module _ (S : Words) (u : Word) {a from before : ℕ} (fresh : find S (snoc u a) ≡ none) (h : Holder S u from before) (low : from ≤ a)
+module _ (S : Words) (u : Word) {a from : ℕ} {before : Option ℕ} (fresh : find S (snoc u a) ≡ none) (h : Holder S u from before) (low : from ≤ a)
     (gap : NoChild S u from a) where
-  pointer_kept : {b o : ℕ} → Holder S u b o → b ≢ from → child_from (snoc S (snoc u a)) u b ≡ child_from S u b
+  pointer_kept : {b : ℕ} {o : Option ℕ} → Holder S u b o → b ≢ from → child_from (snoc S (snoc u a)) u b ≡ child_from S u b
   pointer_kept {b} k d = go (dec_lt b from)
     where
-      lower : {f o : ℕ} → Holder S u f o → f ≤ a → b < f → child_from (snoc S (snoc u a)) u b ≡ child_from S u b
+      lower : {f : ℕ} {o : Option ℕ} → Holder S u f o → f ≤ a → b < f → child_from (snoc S (snoc u a)) u b ≡ child_from S u b
       lower own l i = absurd (omega arith)
       lower (child f q e) l i = child_from_before S u a b f q (omega arith) (omega arith) e
 
@@ -29,7 +30,7 @@ module _ (S : Words) (u : Word) {a from before : ℕ} (fresh : find S (snoc u a)
           (⊎_elim (λ l. none_or_some (gap e i l) f) (λ l. l))
           (trichotomy e a)
 
-      higher : {c o : ℕ} → Holder S u c o → from < c → child_from (snoc S (snoc u a)) u c ≡ child_from S u c
+      higher : {c : ℕ} {o : Option ℕ} → Holder S u c o → from < c → child_from (snoc S (snoc u a)) u c ≡ child_from S u c
       higher own i = absurd (omega arith)
       higher (child e q f) i =
           let l = beyond e q f (omega arith) in

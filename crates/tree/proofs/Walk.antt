@@ -9,15 +9,17 @@ use lib.Dec.{eqb}
 use lib.ListN.{length}
 use borrow.Author.Tests.{ne_eqb}
 use Rattle.meaning.specs.Numbers.{letter_values, most_states, absent}
-use Rattle.std.specs.Prelude.{if◌then◌else◌}
+use Rattle.std.specs.Prelude.{if◌then◌else◌, Option, Some, None, unwrap_or}
 use Rattle.meaning.specs.Words.{Word, Words, snoc, find, word}
 use Rattle.meaning.specs.Table.{stored, child_from, first_child, last_letter, next_sibling, letter_field, child_field, sibling_field}
 use Rattle.meaning.proofs.Find.{Asked, ask, got, lacks, none_or_some, none_unless, find_some}
 use Rattle.meaning.proofs.Children.{NoChild, LeastChild, child_from_some, child_from_none, child_from_is, child_from_no, last_letter_snoc, sibling_snoc}
 use Rattle.meaning.proofs.Rows.{stored_none, stored_some}
+use Rattle.tree.specs.Found.{found, present}
 use Rattle.tree.specs.Layout.{field_at, HasRow}
 use Rattle.tree.specs.Tree.{Tree}
 use Rattle.tree.specs.Insertion.{Holder, own, child, Sought}
+use Rattle.tree.proofs.Found.{some_is, stored_back, present_here, present_none}
 
 -- c is the child of u with the least letter from b on, and its row says so
 pub record Child (S : Words) (t : List ℕ) (u : Word) (b c : ℕ) : Type 0 where
@@ -93,17 +95,17 @@ left_less {S = S} {t = t} τ {u} {c = c} h = go (ask (child_from S u (suc h.leas
         rw (h.next, q, behind, now) (omega (arith, g.least.low, g.least.high))
 
 -- the search for the place of the letter a: `before` holds the pointer to `next`, and no child from a on is passed
-pub record Seeking (S : Words) (u : Word) (a before next : ℕ) : Type 0 where
+pub record Seeking (S : Words) (u : Word) (a : ℕ) (before : Option ℕ) (next : ℕ) : Type 0 where
   pub from : ℕ
   pub holder : Holder S u from before
   pub low : from ≤ a
   pub next_is : next ≡ stored (child_from S u from)
 
-module _ {X S : Words} {t : List ℕ} (τ : Tree X S t) {u : Word} {a before next : ℕ} (w : Seeking S u a before next) where
+module _ {X S : Words} {t : List ℕ} (τ : Tree X S t) {u : Word} {a next : ℕ} {before : Option ℕ} (w : Seeking S u a before next) where
   pub seeking_row : (next ≡ absent → ⊥) → Child S t u w.from next
   seeking_row f = more τ u w.next_is f
 
-  pub seek_on : (next ≡ absent → ⊥) → field_at t next letter_field < a → Seeking S u a next (field_at t next sibling_field)
+  pub seek_on : (next ≡ absent → ⊥) → field_at t next letter_field < a → Seeking S u a (Some next) (field_at t next sibling_field)
   seek_on f l =
       let h = seeking_row f in
       record {
@@ -113,7 +115,7 @@ module _ {X S : Words} {t : List ℕ} (τ : Tree X S t) {u : Word} {a before nex
         next_is = h.next;
       }
 
-  pub seek_here : (next ≡ absent → ⊥) → a ≤ field_at t next letter_field → Sought S u a before next
+  pub seek_here : (next ≡ absent → ⊥) → a ≤ field_at t next letter_field → Sought S u a before (Some next)
   seek_here f l =
       let h = (seeking_row f).least in
       let k : a ≤ h.letter = omega (arith, (seeking_row f).letter) in
@@ -122,7 +124,7 @@ module _ {X S : Words} {t : List ℕ} (τ : Tree X S t) {u : Word} {a before nex
         holder = w.holder;
         low = w.low;
         gap = λ d i j. h.first d i (omega arith);
-        next_is = sym (ap stored (child_from_is S u a next (record {
+        next_is = sym (ap found (child_from_is S u a next (record {
           letter = h.letter;
           low = k;
           high = h.high;
@@ -131,7 +133,7 @@ module _ {X S : Words} {t : List ℕ} (τ : Tree X S t) {u : Word} {a before nex
         })));
       }
 
-  pub seek_end : next ≡ absent → Sought S u a before next
+  pub seek_end : next ≡ absent → Sought S u a before None
   seek_end e =
       let h = no_more τ u w.next_is e in
       record {
@@ -139,25 +141,25 @@ module _ {X S : Words} {t : List ℕ} (τ : Tree X S t) {u : Word} {a before nex
         holder = w.holder;
         low = w.low;
         gap = λ d i j. h d i;
-        next_is = e ∙ sym (ap stored (child_from_no S u a (λ d i j. h d (omega (arith, w.low)))));
+        next_is = sym (ap found (child_from_no S u a (λ d i j. h d (omega (arith, w.low)))));
       }
 
   -- where no child from `from` on comes before a
-  pub seek_gap : NoChild S u w.from a → Sought S u a before next
+  pub seek_gap : NoChild S u w.from a → Sought S u a before (present next)
   seek_gap gap = go (ℕ_discrete next absent)
     where
-      go : Dec (next ≡ absent) → Sought S u a before next
-      go (yes e) = seek_end e
+      go : Dec (next ≡ absent) → Sought S u a before (present next)
+      go (yes e) = rw (present_none next e) (seek_end e)
       go (no d) =
           let h = seeking_row d in
           let k : ¬ (h.least.letter < a) = λ l. none_or_some (gap h.least.letter h.least.low l) h.least.child in
-          seek_here d (omega (arith, h.letter))
+          rw (present_here next d) (seek_here d (omega (arith, h.letter)))
 
 -- the place of the letter a by what is known of the children before it
 module _ {X S : Words} {t : List ℕ} (τ : Tree X S t) {u : Word} {a : ℕ} where
   -- that by b is the last of them
   pub place_after : {b q next : ℕ} → find S (snoc u b) ≡ some q → b < a → NoChild S u (suc b) a → next ≡ field_at t q sibling_field
-      → Sought S u a q next
+      → Sought S u a (Some q) (present next)
   place_after {b} {q} e l gap i =
       seek_gap τ (record {
         from = suc b;
@@ -169,7 +171,7 @@ module _ {X S : Words} {t : List ℕ} (τ : Tree X S t) {u : Word} {a : ℕ} whe
 
   -- there is none
   pub place_first : {p next : ℕ} → p < length S → u ≡ word S p → NoChild S u 0 a → next ≡ field_at t p child_field
-      → Sought S u a absent next
+      → Sought S u a None (present next)
   place_first {p} l e gap i =
       seek_gap τ (record {
         from = 0;
@@ -180,37 +182,39 @@ module _ {X S : Words} {t : List ℕ} (τ : Tree X S t) {u : Word} {a : ℕ} whe
       gap
 
 -- the child by a, where the search ended
-module _ {X S : Words} {t : List ℕ} (τ : Tree X S t) {u : Word} {a before next : ℕ} (s : Sought S u a before next) where
-  pub sought_row : (next ≡ absent → ⊥) → Child S t u a next
-  sought_row f = more τ u s.next_is f
+module _ {X S : Words} {t : List ℕ} (τ : Tree X S t) {u : Word} {a : ℕ} {before next : Option ℕ} (s : Sought S u a before next) where
+  pub sought_row : {q : ℕ} → Some q ≡ next → Child S t u a q
+  sought_row {q} f = row_of τ (child_from_some S u a q (some_is _ (f ∙ s.next_is)))
 
-  pub sought_small : next ≤ absent
+  -- the pointer that a row stores
+  pub sought_stored : unwrap_or next absent ≡ stored (child_from S u a)
+  sought_stored = ap (λ (o : Option ℕ). unwrap_or o absent) s.next_is ∙ stored_back (child_from S u a)
+
+  pub sought_small : unwrap_or next absent ≤ absent
   sought_small = go (ask (child_from S u a))
     where
-      go : Asked (child_from S u a) → next ≤ absent
-      go (got n e) = let l = found_small τ _ (child_from_some S u a n e).child in omega (arith, s.next_is ∙ ap stored e)
-      go (lacks e) = omega (arith, s.next_is ∙ ap stored e)
+      go : Asked (child_from S u a) → unwrap_or next absent ≤ absent
+      go (got n e) = let l = found_small τ _ (child_from_some S u a n e).child in omega (arith, sought_stored ∙ ap stored e)
+      go (lacks e) = omega (arith, sought_stored ∙ ap stored e)
 
-  pub there : (next ≡ absent → ⊥) → field_at t next letter_field ≡ a → find S (snoc u a) ≡ some next
+  pub there : {q : ℕ} → Some q ≡ next → field_at t q letter_field ≡ a → find S (snoc u a) ≡ some q
   there f e =
       let h = sought_row f in
       let i : h.least.letter ≡ a = sym h.letter ∙ e in
       ap (λ (y : ℕ). find S (snoc u y)) (sym i) ∙ h.least.child
 
-  pub not_there : a < letter_values → ((next ≡ absent → ⊥) → field_at t next letter_field ≡ a → ⊥) → find S (snoc u a) ≡ none
+  pub not_there : a < letter_values → ((q : ℕ) → Some q ≡ next → field_at t q letter_field ≡ a → ⊥) → find S (snoc u a) ≡ none
   not_there byte f = none_unless _ (λ q e. absurd_child q e)
     where
       absurd_child : (q : ℕ) → find S (snoc u a) ≡ some q → ⊥
       absurd_child q e =
-          let i : next ≡ q = s.next_is ∙ ap stored (child_from_is S u a q (record { letter = a; low = omega arith; high = byte; child = e; first = λ d l m. absurd (omega arith) })) in
-          let small = found_small τ (snoc u a) e in
-          let d : next ≡ absent → ⊥ = λ z. omega arith in
-          let h = sought_row d in
-          f d (h.letter ∙ same_letter h i e)
+          let i : Some q ≡ next = sym (s.next_is ∙ ap found (child_from_is S u a q (record { letter = a; low = omega arith; high = byte; child = e; first = λ d l m. absurd (omega arith) }))) in
+          let h = sought_row i in
+          f q i (h.letter ∙ same_letter h)
         where
-          same_letter : (h : Child S t u a next) → next ≡ q → find S (snoc u a) ≡ some q → h.least.letter ≡ a
-          same_letter h i e' = go (dec_lt a h.least.letter)
+          same_letter : (h : Child S t u a q) → h.least.letter ≡ a
+          same_letter h = go (dec_lt a h.least.letter)
             where
               go : Dec (a < h.least.letter) → h.least.letter ≡ a
-              go (yes l) = none_or_some (h.least.first a (omega arith) l) e'
+              go (yes l) = none_or_some (h.least.first a (omega arith) l) e
               go (no l) = omega (arith, h.least.low)

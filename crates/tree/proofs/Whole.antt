@@ -13,6 +13,7 @@ use Rattle.meaning.proofs.States.{Bounded, WordsIn, allowed_bounded, allowed_wor
 use Rattle.meaning.proofs.Rows.{rows_at, rows-length, rows_take, table-length}
 use Rattle.tree.specs.Layout.{field_at}
 use Rattle.tree.specs.Tree.{Whole, IsTable}
+use Rattle.tree.specs.declared.index.ChildIndex.{ChildIndex}
 use Rattle.tree.specs.Index.{Indexed}
 use Rattle.tree.specs.Filling.{Bordered, LinkedAt}
 
@@ -67,7 +68,7 @@ module _ {X : Words} {t : List ℕ} (ι : IsTable X t) where
   table_whole = rows_whole (allowed_bounded X ι.allowed) (allowed_words X ι.allowed)
       (ap (λ (k : ℕ). take k t) (sym (table-length X)) ∙ ι.rows)
 
-  pub table_bordered : {index : List ℕ} → Indexed (states X) index → {s : ℕ} → s < length (states X) → Bordered X (states X) t index s
+  pub table_bordered : {index : ChildIndex} → Indexed (states X) index → {s : ℕ} → s < length (states X) → Bordered X (states X) t index s
   table_bordered i l = record {
     tree = table_whole.tree;
     indexed = i;

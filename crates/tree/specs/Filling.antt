@@ -7,14 +7,15 @@ use Rattle.meaning.specs.Automaton.{border as border_state}
 use Rattle.meaning.specs.Table.{width, border_field, link_field, chain_field}
 use Rattle.tree.specs.Layout.{field_at}
 use Rattle.tree.specs.Tree.{Right, Tree, Whole, border_of, link_of, chain_of}
-use Rattle.tree.specs.Index.{Indexed}
+use Rattle.tree.specs.Index.{cell, Indexed}
+use Rattle.tree.specs.declared.index.ChildIndex.{ChildIndex}
 
 -- where the root goes by a
-abbrev pub root_step : List ℕ → ℕ → ℕ
-root_step index a = if eqb (get_or index a 0) absent then 0 else get_or index a 0
+abbrev pub root_step : ChildIndex → ℕ → ℕ
+root_step index a = if eqb (cell index 0 a) absent then 0 else cell index 0 a
 
 -- the borders of the states of at most as many letters as state s are right, and the index is
-pub record Bordered (X S : Words) (t index : List ℕ) (s : ℕ) : Type 0 where
+pub record Bordered (X S : Words) (t : List ℕ) (index : ChildIndex) (s : ℕ) : Type 0 where
   pub tree : Tree X S t
   pub indexed : Indexed S index
   pub inside : s < length S

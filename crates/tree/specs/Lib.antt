@@ -1,3 +1,4 @@
+pub mod Found
 pub mod Layout
 pub mod Forms
 pub mod Tree

@@ -36,14 +36,9 @@ pub fn longest_chain(table: &[u16], n: usize) -> usize
     requires { (X S : Words) × Whole X S table.now × (n ≡ length S) }
     ensures { (X S : Words) → Whole X S table.now → n ≡ length S → result ≡ longest_of X S }
 {
-    let mut r = 0;
-    let mut s = 0;
-    while s < n {
-        let k = chain_length(table, s);
-        if r < k {
-            r = k;
-        }
-        s += 1;
+    let mut longest = 0;
+    for s in 0..n {
+        longest = longest.max(chain_length(table, s));
     }
-    r
+    longest
 }

@@ -1,103 +1,33 @@
 // The index of the children of the root, and of some one-letter states: for these a row each, while rows last.
-ghost use Rattle.std.specs.Prelude.{◌≡◌, ◌+◌, ◌≤◌, ◌<◌};
-ghost use Rattle.meaning.specs.Numbers.{letter_values};
+ghost use Rattle.std.specs.Prelude.{◌≡◌, ◌+◌, ◌≤◌, ◌<◌, IfSome};
+ghost use Rattle.meaning.specs.Numbers.{letter_values, most_states};
 ghost use Rattle.meaning.specs.Words.{Words, snoc, find, word};
-ghost use Rattle.meaning.specs.Table.{stored};
 ghost use Rattle.meaning.proofs.Children.{NoChild};
+ghost use Rattle.tree.specs.Found.{found, present};
 ghost use Rattle.tree.specs.Tree.{Tree, AtState};
-ghost use Rattle.tree.specs.Index.{owners_at, Indexed, IndexedAt, Based, Empty, Filled, OneLetter};
-ghost use Rattle.tree.specs.Insertion.{Sought};
+ghost use Rattle.tree.specs.Index.{rows, cell, Indexed, IndexedAt, Based, Vacant, Empty, Filled, OneLetter};
+ghost use Rattle.tree.specs.Insertion.{known_child, noted, claimed, rowed, Sought};
 
-use crate::children::{Place, child_by};
-use crate::layout::{NONE, depth, first_child, letter, next_sibling, wide};
+use crate::children::{Place, child_by, seek};
+use crate::layout::{NONE, depth, first_child, letter, next_sibling, present};
 
-// What the index has for a letter without a child, and for a row without an owner.
-pub const NO_CHILD: u16 = 65535;
+// What the index has for a letter without a child, and for a row without an owner: a number, as an Option would take twice the stack.
+const NO_CHILD: u16 = 65535;
 
-// The numbers of a block: one for each letter. Block 0 is the root's; the others are the rows.
+// The numbers of a block: one for each letter.
 const LETTERS: usize = 256;
 
 // How many rows there are. A letter shares its row with those of the same remainder: the first to come owns it.
-pub const ROWS: usize = 16;
+const ROWS: usize = 16;
 
-// Where the owners stand, behind all blocks.
-pub const OWNERS: usize = 4352;
+const BLOCKS: usize = ROWS + 1;
 
-pub const INDEX_LENGTH: usize = 4368;
-
-// The children of state p are noted in the block at base. Goes along them once, at most 256.
-fn note_children(table: &[u16], index: &mut [u16; INDEX_LENGTH], base: usize, p: usize)
-    requires at_state { (X S : Words) × AtState X S table.now p }
-    requires room { (base + letter_values ≤ owners_at) × Empty index.old base }
-    ensures { (X S : Words) → AtState X S table.now p → Filled S (word S p) base index.old index.new }
-{
-    let mut c = first_child(table, p);
-    while c != NONE {
-        let a = letter(table, c);
-        index[base + a] = c as u16;
-        c = next_sibling(table, c);
-    }
-}
-
-// The one-letter state c by x takes its row, where that has no owner.
-fn take_row(table: &[u16], index: &mut [u16; INDEX_LENGTH], x: usize, c: usize)
-    requires { (X S : Words) × OneLetter X S table.now index.old x c }
-    ensures { (X S : Words) → OneLetter X S table.now index.old x c → Indexed S index.new }
-{
-    let row = x % ROWS;
-    if wide(index[OWNERS + row]) == NONE {
-        index[OWNERS + row] = x as u16;
-        note_children(table, index, LETTERS * (row + 1), c);
-    }
-}
-
-// Goes along the root's children twice, and once along those of the states that own a row: at most 256 turns more than there are
-// states.
-pub fn child_index(table: &[u16]) -> [u16; INDEX_LENGTH]
-    requires { (X S : Words) × Tree X S table.now }
-    ensures { (X S : Words) → Tree X S table.now → Indexed S result }
-{
-    let mut index = [NO_CHILD; INDEX_LENGTH];
-    note_children(table, &mut index, 0, 0);
-    let mut c = first_child(table, 0);
-    while c != NONE {
-        let x = letter(table, c);
-        take_row(table, &mut index, x, c);
-        c = next_sibling(table, c);
-    }
-    index
-}
-
-// Where the block with the children of state v begins, or none.
-pub fn block_of(table: &[u16], index: &[u16; INDEX_LENGTH], v: usize) -> usize
-    requires { (X S : Words) × IndexedAt X S table.now index.now v }
-    ensures { (X S : Words) → IndexedAt X S table.now index.now v → Based index.now (word S v) result }
-{
-    if v == 0 {
-        return 0;
-    }
-    if depth(table, v) != 1 {
-        return NONE;
-    }
-    let x = letter(table, v);
-    let row = x % ROWS;
-    if wide(index[OWNERS + row]) != x {
-        return NONE;
-    }
-    LETTERS * (row + 1)
-}
-
-// The child of v with the letter a, or none: by the index where it has the children of v, else by the sibling walk.
-pub fn child_of(table: &[u16], index: &[u16; INDEX_LENGTH], v: usize, a: usize) -> usize
-    requires indexed_at { (X S : Words) × IndexedAt X S table.now index.now v }
-    requires letter { a < letter_values }
-    ensures { (X S : Words) → IndexedAt X S table.now index.now v → result ≡ stored (find S (snoc (word S v) a)) }
-{
-    let base = block_of(table, index, v);
-    if base == NONE {
-        return child_by(table, v, a);
-    }
-    wide(index[base + a])
+#[derive(Drop)]
+pub struct ChildIndex {
+    // The children by each letter: of the root in block 0, and in block r + 1 of the state that owns row r.
+    blocks: [[u16; LETTERS]; BLOCKS],
+    // For each row the letter of that state.
+    owners: [u16; ROWS],
 }
 
 // Where the search below the letter a begins: at a, or at 0 where the root has no child below a. Its first child tells.
@@ -115,21 +45,173 @@ fn search_start(table: &[u16], a: usize) -> usize
     a
 }
 
-// The place of a child of the root with the letter a. Goes down the letters below a to the first that has a child, where one has.
-pub fn seek_root(table: &[u16], index: &[u16; INDEX_LENGTH], a: usize) -> Place
-    requires indexed_at { (X S : Words) × IndexedAt X S table.now index.now 0 }
-    requires letter { a < letter_values }
-    ensures { (X S : Words) → IndexedAt X S table.now index.now 0 → Sought S (word S 0) a result.before result.next }
-{
-    let mut above = search_start(table, a);
-    while above != 0 {
-        above -= 1;
-        let before = wide(index[above]);
-        if before != NONE {
-            let next = next_sibling(table, before);
-            return Place { before, next };
+impl ChildIndex {
+    // No child, and no row has an owner.
+    pub fn new() -> ChildIndex
+        ensures { Vacant result }
+    {
+        ChildIndex {
+            blocks: [[NO_CHILD; LETTERS]; BLOCKS],
+            owners: [NO_CHILD; ROWS],
         }
     }
-    let next = first_child(table, 0);
-    Place { before: NONE, next }
+
+    // The index of a tree. Goes along the root's children twice, and once along those of the states that own a row: at most 256 turns
+    // more than there are states.
+    pub fn of(table: &[u16]) -> ChildIndex
+        requires { (X S : Words) × Tree X S table.now }
+        ensures { (X S : Words) → Tree X S table.now → Indexed S result }
+    {
+        let mut index = ChildIndex::new();
+        index.note_children(table, 0, 0);
+        let mut c = first_child(table, 0);
+        while c != NONE {
+            let x = letter(table, c);
+            index.take_row(table, x, c);
+            c = next_sibling(table, c);
+        }
+        index
+    }
+
+    // The children of state p are noted in block k. Goes along them once, at most 256.
+    fn note_children(&mut self, table: &[u16], k: usize, p: usize)
+        requires at_state { (X S : Words) × AtState X S table.now p }
+        requires room { (k ≤ rows) × Empty self.old k }
+        ensures { (X S : Words) → AtState X S table.now p → Filled S (word S p) k self.old self.new }
+    {
+        let mut c = first_child(table, p);
+        while c != NONE {
+            let a = letter(table, c);
+            self.blocks[k][a] = c as u16;
+            c = next_sibling(table, c);
+        }
+    }
+
+    // The one-letter state c by x takes its row, where that has no owner.
+    fn take_row(&mut self, table: &[u16], x: usize, c: usize)
+        requires { (X S : Words) × OneLetter X S table.now self.old x c }
+        ensures { (X S : Words) → OneLetter X S table.now self.old x c → Indexed S self.new }
+    {
+        let row = x % ROWS;
+        if self.owners[row] == NO_CHILD {
+            self.owners[row] = x as u16;
+            self.note_children(table, row + 1, c);
+        }
+    }
+
+    // The block with the children of state v, or none.
+    pub(crate) fn block_of(&self, table: &[u16], v: usize) -> Option<usize>
+        requires { (X S : Words) × IndexedAt X S table.now self.now v }
+        ensures { (X S : Words) → IndexedAt X S table.now self.now v → Based self.now (word S v) result }
+    {
+        if v == 0 {
+            return Some(0);
+        }
+        if depth(table, v) != 1 {
+            return None;
+        }
+        let x = letter(table, v);
+        let row = x % ROWS;
+        if usize::from(self.owners[row]) != x {
+            return None;
+        }
+        Some(row + 1)
+    }
+
+    // The child by the letter a in block k.
+    fn child_in(&self, k: usize, a: usize) -> Option<usize>
+        requires { (k ≤ rows) × (a < letter_values) }
+        ensures { result ≡ present (cell self.now k a) }
+    {
+        present(usize::from(self.blocks[k][a]))
+    }
+
+    // The root's child by the letter a.
+    pub(crate) fn root_child(&self, a: usize) -> Option<usize>
+        requires { a < letter_values }
+        ensures { result ≡ present (cell self.now 0 a) }
+    {
+        self.child_in(0, a)
+    }
+
+    // The child of v with the letter a, or none: by the index where it has the children of v, else by the sibling walk.
+    pub(crate) fn child_of(&self, table: &[u16], v: usize, a: usize) -> Option<usize>
+        requires indexed_at { (X S : Words) × IndexedAt X S table.now self.now v }
+        requires letter { a < letter_values }
+        ensures { (X S : Words) → IndexedAt X S table.now self.now v → result ≡ found (find S (snoc (word S v) a)) }
+    {
+        match self.block_of(table, v) {
+            Some(k) => self.child_in(k, a),
+            None => child_by(table, v, a),
+        }
+    }
+
+    // The place of a child of the root with the letter a. Goes down the letters below a to the first that has a child, where one has.
+    fn seek_root(&self, table: &[u16], a: usize) -> Place
+        requires indexed_at { (X S : Words) × IndexedAt X S table.now self.now 0 }
+        requires letter { a < letter_values }
+        ensures { (X S : Words) → IndexedAt X S table.now self.now 0 → Sought S (word S 0) a result.before result.next }
+    {
+        let start = search_start(table, a);
+        for b in (0..start).rev() {
+            let before = self.root_child(b);
+            if let Some(sibling) = before {
+                let next = present(next_sibling(table, sibling));
+                return Place { before, next };
+            }
+        }
+        let next = present(first_child(table, 0));
+        Place { before: None, next }
+    }
+
+    // The place of a child of p with the letter a: by the index where p is the root, else by the sibling walk.
+    pub(crate) fn place_under(&self, table: &[u16], p: usize, a: usize) -> Place
+        requires indexed_at { (X S : Words) × IndexedAt X S table.now self.now p }
+        requires letter { a < letter_values }
+        ensures { (X S : Words) → IndexedAt X S table.now self.now p → Sought S (word S p) a result.before result.next }
+    {
+        if p == 0 {
+            return self.seek_root(table, a);
+        }
+        seek(table, p, a)
+    }
+
+    // The child with the letter a in the block, if it is one; none where there is no block.
+    pub(crate) fn known_child(&self, block: Option<usize>, a: usize) -> Option<usize>
+        requires { (a < letter_values) × IfSome block (λ k. k ≤ rows) }
+        ensures { result ≡ known_child self.now block a }
+    {
+        self.child_in(block?, a)
+    }
+
+    // The new state n joins the block of its parent, where there is one.
+    pub(crate) fn note(&mut self, block: Option<usize>, a: usize, n: usize)
+        requires { (a < letter_values) × (n < most_states) × IfSome block (λ k. k ≤ rows) }
+        ensures { self.new ≡ noted self.old block a n }
+    {
+        if let Some(k) = block {
+            self.blocks[k][a] = n as u16;
+        }
+    }
+
+    // The one-letter state x owns its row, where that has no owner. It is new, so the row stays empty.
+    fn claim_row(&mut self, x: usize)
+        requires { x < letter_values }
+        ensures { self.new ≡ claimed self.old x }
+    {
+        let row = x % ROWS;
+        if self.owners[row] == NO_CHILD {
+            self.owners[row] = x as u16;
+        }
+    }
+
+    // The new child of p with the letter a claims a row, where p is the root.
+    pub(crate) fn claim_under(&mut self, p: usize, a: usize)
+        requires { a < letter_values }
+        ensures { self.new ≡ rowed self.old p a }
+    {
+        if p == 0 {
+            self.claim_row(a);
+        }
+    }
 }

@@ -5,6 +5,7 @@ ghost use Rattle.meaning.specs.Numbers.{absent};
 ghost use Rattle.meaning.specs.Table.{width, narrow_width, letter_field, child_field, sibling_field, depth_field, word_field, border_field, link_field, chain_field};
 ghost use Rattle.tree.specs.Layout.{HasRow, Reads, set_field, new_row, Narrowed};
 ghost use Rattle.tree.specs.Forms.{width_in};
+ghost use Rattle.tree.specs.Found.{present};
 
 // The two forms of a table: with the length of each state's chain, and without it, as tables in the field are.
 #[derive(Clone, Copy)]
@@ -41,26 +42,33 @@ const CHAIN: usize = 7;
 // The number that stands for none.
 pub const NONE: usize = 65535;
 
-pub fn row_width(form: Form) -> usize
-    ensures { result ≡ width_in form }
-{
-    match form {
-        Form::Wide => WIDTH,
-        Form::Narrow => NARROW_WIDTH,
+impl Form {
+    // How many numbers a row has.
+    pub fn width(self) -> usize
+        ensures { result ≡ width_in self }
+    {
+        match self {
+            Form::Wide => WIDTH,
+            Form::Narrow => NARROW_WIDTH,
+        }
     }
 }
 
-pub fn wide(x: u16) -> usize
-    ensures { (result ≡ x) × (result ≤ absent) }
+// A number of a row or of the index, unless it stands for none.
+pub fn present(x: usize) -> Option<usize>
+    ensures { result ≡ present x }
 {
-    x as usize
+    if x == NONE {
+        return None;
+    }
+    Some(x)
 }
 
 fn field(table: &[u16], s: usize, j: usize) -> usize
     requires { (j < width) × HasRow table.now s }
     ensures { Reads table.now s j result }
 {
-    wide(table[WIDTH * s + j])
+    usize::from(table[WIDTH * s + j])
 }
 
 fn set_field(table: &mut [u16], s: usize, j: usize, v: usize)
@@ -189,10 +197,8 @@ pub fn narrow_rows(table: &[u16], n: usize, narrow: &mut [u16])
     requires { (width * n ≤ length table.now) × (narrow_width * n ≤ length narrow.old) }
     ensures { Narrowed table.now n narrow.old narrow.new }
 {
-    let end = NARROW_WIDTH * n;
-    let mut i = 0;
-    while i < end {
-        narrow[i] = table[WIDTH * (i / NARROW_WIDTH) + i % NARROW_WIDTH];
-        i += 1;
+    for s in 0..n {
+        let row = &table[WIDTH * s..WIDTH * s + NARROW_WIDTH];
+        narrow[NARROW_WIDTH * s..NARROW_WIDTH * (s + 1)].copy_from_slice(row);
     }
 }

@@ -9,10 +9,10 @@ mod layout;
 mod stepping;
 
 pub use chains::{count_chain, first_word, longest_chain};
-pub use index::{INDEX_LENGTH, NO_CHILD, child_index};
+pub use index::ChildIndex;
 pub use insertion::insert_word;
 pub use layout::{
     Form, MOST_NUMBERS, NONE, add_row, border, chain_length, depth, first_child, letter, link,
-    narrow_rows, next_sibling, row_width, set_border, set_chain_length, set_link, wide, word,
+    narrow_rows, next_sibling, set_border, set_chain_length, set_link, word,
 };
 pub use stepping::{child_border, step};

@@ -1,114 +1,72 @@
 // The book check and blocks.
-use super::lines::{print, print_count, print_number, print_refusal};
-use super::making::{put_block, put_blocks, put_word};
-use super::plain::{block, block_part, build, check_book};
+use super::lent::Words;
+use super::lines::checked_line;
+use super::making::{write_blocks, write_word_and_block};
 use super::scans::scan_line;
-use orgamish::BookAnswer;
+use orgamish::{block, block_part, check_book};
 use std::io;
 
-pub fn checked_line(rt: &impl Print, name: &[u8], told: BookAnswer) -> io::Result<()> {
-    print(rt, name)?;
-    match told {
-        BookAnswer::Blocks { words, blocks } => {
-            print_number(rt, words)?;
-            print_number(rt, blocks)?;
-        }
-        BookAnswer::Refused { number, place } => {
-            print_refusal(rt, number, place)?;
-        }
-    }
-    print(rt, b"\n")
+pub fn book_line(rt: &impl Print, name: &str, map: &[u8], book: &[u8]) -> io::Result<()> {
+    checked_line(rt, name, check_book(map, book))
 }
 
-fn book_line(rt: &impl Print, name: &[u8], book: &[u8]) -> io::Result<()> {
-    checked_line(rt, name, check_book(book))
-}
-
-// A text in brackets.
-pub fn text_line(rt: &impl Print, name: &[u8], text: &[u8]) -> io::Result<()> {
-    print(rt, name)?;
-    print(rt, b" [")?;
-    print(rt, text)?;
-    print(rt, b"]\n")
-}
-
-fn block_line(rt: &impl Print, name: &[u8], book: &[u8], n: usize) -> io::Result<()> {
-    text_line(rt, name, block(book, n))
+// The text of block n, in brackets.
+pub fn text_line(rt: &impl Print, name: &str, map: &[u8], book: &[u8], n: usize) -> io::Result<()> {
+    print!(rt; "{name} [")?;
+    rt.write_all(block(map, book, n))?;
+    print!(rt; "]\n")
 }
 
 // The offset and the length of block n's text.
-fn part_line(rt: &impl Print, name: &[u8], book: &[u8], n: usize) -> io::Result<()> {
-    print(rt, name)?;
-    let part = block_part(book, n);
-    print_count(rt, part.start as u64)?;
-    print_count(rt, part.len as u64)?;
-    print(rt, b"\n")
+fn part_line(rt: &impl Print, name: &str, map: &[u8], book: &[u8], n: usize) -> io::Result<()> {
+    let part = block_part(map, book, n);
+    println!(rt; "{name} {} {}", part.start, part.len)
 }
 
-// The verdict on block n under a table of 80 numbers.
-fn verdict_line(
-    rt: &impl Print,
-    name: &[u8],
-    dict: &[u8],
-    book: &[u8],
-    n: usize,
-) -> io::Result<()> {
-    let mut table = [7u16; 80];
-    let mut states = [7u16; 7];
-    let mut counts = [7u64; 7];
-    build(dict, &mut table);
-    scan_line(
-        rt,
-        name,
-        dict,
-        &table,
-        block(book, n),
-        &mut states,
-        &mut counts,
-    )
+pub fn print_example(rt: &impl Print, set_e: Words, book: &[u8]) -> io::Result<()> {
+    let map = set_e.map;
+    let table = set_e.table::<80>();
+    scan_line::<7>(rt, "block-0", set_e, &table, block(map, book, 0))?;
+    scan_line::<7>(rt, "block-1", set_e, &table, block(map, book, 1))?;
+    scan_line::<7>(rt, "block-2", set_e, &table, block(map, book, 2))?;
+    scan_line::<7>(rt, "block-3", set_e, &table, block(map, book, 3))?;
+    book_line(rt, "book", map, book)?;
+    text_line(rt, "text-0", map, book, 0)?;
+    text_line(rt, "text-1", map, book, 1)?;
+    text_line(rt, "text-4", map, book, 4)?;
+    part_line(rt, "part-0", map, book, 0)?;
+    part_line(rt, "part-1", map, book, 1)?;
+    part_line(rt, "part-3", map, book, 3)?;
+    part_line(rt, "part-4", map, book, 4)
 }
 
-pub fn print_example(rt: &impl Print, set_e: &[u8], book: &[u8]) -> io::Result<()> {
-    verdict_line(rt, b"block-0", set_e, book, 0)?;
-    verdict_line(rt, b"block-1", set_e, book, 1)?;
-    verdict_line(rt, b"block-2", set_e, book, 2)?;
-    verdict_line(rt, b"block-3", set_e, book, 3)?;
-    book_line(rt, b"book", book)?;
-    block_line(rt, b"text-0", book, 0)?;
-    block_line(rt, b"text-1", book, 1)?;
-    block_line(rt, b"text-4", book, 4)?;
-    part_line(rt, b"part-0", book, 0)?;
-    part_line(rt, b"part-1", book, 1)?;
-    part_line(rt, b"part-3", book, 3)?;
-    part_line(rt, b"part-4", book, 4)
+// 16 blocks, and one byte more.
+pub fn print_book_lengths(rt: &impl Print, map: &[u8]) -> io::Result<()> {
+    let mut room = [0; 65536];
+    let mut longer = [0; 65537];
+    write_blocks(&mut room);
+    write_blocks(&mut longer);
+    book_line(rt, "book-65536", map, &room)?;
+    book_line(rt, "book-65537", map, &longer)
 }
 
-pub fn print_book_lengths(rt: &impl Print) -> io::Result<()> {
-    let mut room = [0u8; 65536];
-    let mut longer = [0u8; 65537];
-    put_blocks(&mut room, 16, 4092);
-    put_blocks(&mut longer, 16, 4092);
-    book_line(rt, b"book-65536", &room)?;
-    book_line(rt, b"book-65537", &longer)
+// The word a, and a block.
+pub fn print_block_lengths(rt: &impl Print, map: &[u8]) -> io::Result<()> {
+    let mut b96 = [0; 4104];
+    let mut b97 = [0; 4105];
+    write_word_and_block(&mut b96);
+    write_word_and_block(&mut b97);
+    book_line(rt, "block-4096", map, &b96)?;
+    book_line(rt, "block-4097", map, &b97)
 }
 
-pub fn print_block_lengths(rt: &impl Print) -> io::Result<()> {
-    let mut b96 = [0u8; 4104];
-    let mut b97 = [0u8; 4105];
-    let at96 = put_word(&mut b96, 0, 97, 1);
-    let at97 = put_word(&mut b97, 0, 97, 1);
-    put_block(&mut b96, at96, 4096);
-    put_block(&mut b97, at97, 4097);
-    book_line(rt, b"block-4096", &b96)?;
-    book_line(rt, b"block-4097", &b97)
-}
-
-pub fn print_bad_books(rt: &impl Print) -> io::Result<()> {
-    book_line(rt, b"book-no-mark", b"WD\x01aWE\x01b")?;
-    book_line(rt, b"book-word-twice", b"WD\x01aWD\x01aTB\x00\x00")?;
-    book_line(rt, b"block-no-length", b"WD\x01aTB\x01")?;
-    book_line(rt, b"block-cut", b"WD\x01aTB\x02\x00a")?;
-    book_line(rt, b"word-after-block", b"WD\x01aTB\x01\x00aWD\x01b")?;
-    block_line(rt, b"text-refused", b"WD\x01aTB\x01\x00aWD\x01b", 0)?;
-    part_line(rt, b"part-refused", b"WD\x01aTB\x01\x00aWD\x01b", 0)
+pub fn print_bad_books(rt: &impl Print, map: &[u8]) -> io::Result<()> {
+    let word_after = b"WD\x01aTB\x01\x00aWD\x01b";
+    book_line(rt, "book-no-mark", map, b"WD\x01aWE\x01b")?;
+    book_line(rt, "book-word-twice", map, b"WD\x01aWD\x01aTB\x00\x00")?;
+    book_line(rt, "block-no-length", map, b"WD\x01aTB\x01")?;
+    book_line(rt, "block-cut", map, b"WD\x01aTB\x02\x00a")?;
+    book_line(rt, "word-after-block", map, word_after)?;
+    text_line(rt, "text-refused", map, word_after, 0)?;
+    part_line(rt, "part-refused", map, word_after, 0)
 }

@@ -1,93 +1,72 @@
 // Build: limits and refusals of dictionary and table.
-use super::lines::{all_marked, print, print_kept, print_number, print_refusal};
-use super::making::{put_word, put_words};
-use super::plain::build;
-use orgamish::BuildAnswer;
+use super::lent::Words;
+use super::lines::built_line;
+use super::making::{write_word, write_words, write_words_and_one};
+use orgamish::build;
 use std::io;
 
-// What was told, and whether the numbers, which were all 7, are as they were.
-pub fn told_line(rt: &impl Print, name: &[u8], told: BuildAnswer, table: &[u16]) -> io::Result<()> {
-    print(rt, name)?;
-    match told {
-        BuildAnswer::Built {
-            words,
-            states,
-            longest,
-        } => {
-            print_number(rt, words)?;
-            print_number(rt, states)?;
-            print_number(rt, longest)?;
-            print(rt, b"\n")
-        }
-        BuildAnswer::Refused { number, place } => {
-            print_refusal(rt, number, place)?;
-            print_kept(rt, all_marked(table))
-        }
-    }
+// Build, with so many numbers lent, all 7. Told is what they are then.
+pub fn build_line<const N: usize>(
+    rt: &impl Print,
+    name: &str,
+    words: Words,
+) -> io::Result<[u16; N]> {
+    let mut table = [7; N];
+    let told = build(words.map, words.dict, &mut table);
+    built_line(rt, name, told, &table)?;
+    Ok(table)
 }
 
-fn build_line(rt: &impl Print, name: &[u8], dict: &[u8], table: &mut [u16]) -> io::Result<()> {
-    let told = build(dict, table);
-    told_line(rt, name, told, table)
+pub fn print_table_room(rt: &impl Print, set_e: Words) -> io::Result<()> {
+    build_line::<79>(rt, "table-79", set_e)?;
+    build_line::<80>(rt, "table-80", set_e)?;
+    Ok(())
 }
 
-pub fn print_table_room(rt: &impl Print, set_e: &[u8]) -> io::Result<()> {
-    let mut short = [7u16; 79];
-    let mut room = [7u16; 80];
-    build_line(rt, b"table-79", set_e, &mut short)?;
-    build_line(rt, b"table-80", set_e, &mut room)
-}
-
-pub fn print_word_lengths(rt: &impl Print) -> io::Result<()> {
-    let mut table = [7u16; 528];
-    let mut longer = [7u16; 528];
-    let mut d64 = [0u8; 67];
-    let mut d65 = [0u8; 68];
-    put_word(&mut d64, 0, 97, 64);
-    put_word(&mut d65, 0, 97, 65);
-    build_line(rt, b"word-64", &d64, &mut table)?;
-    build_line(rt, b"word-65", &d65, &mut longer)
+pub fn print_word_lengths(rt: &impl Print, map: &[u8]) -> io::Result<()> {
+    let mut d64 = [0; 67];
+    let mut d65 = [0; 68];
+    write_word(&mut d64, b'a');
+    write_word(&mut d65, b'a');
+    build_line::<528>(rt, "word-64", Words::new(map, &d64))?;
+    build_line::<528>(rt, "word-65", Words::new(map, &d65))?;
+    Ok(())
 }
 
 // 31 words of 64 letters, and one of 63 or 64 letters.
-pub fn print_letters_in_all(rt: &impl Print) -> io::Result<()> {
-    let mut table = [7u16; 16384];
-    let mut longer = [7u16; 16392];
-    let mut d47 = [0u8; 2143];
-    let mut d48 = [0u8; 2144];
-    let at47 = put_words(&mut d47, 31, 64);
-    let at48 = put_words(&mut d48, 31, 64);
-    put_word(&mut d47, at47, 97, 63);
-    put_word(&mut d48, at48, 97, 64);
-    build_line(rt, b"letters-2047", &d47, &mut table)?;
-    build_line(rt, b"letters-2048", &d48, &mut longer)
+pub fn print_letters_in_all(rt: &impl Print, map: &[u8]) -> io::Result<()> {
+    let mut d47 = [0; 2143];
+    let mut d48 = [0; 2144];
+    write_words_and_one::<67>(&mut d47, 2077);
+    write_words_and_one::<67>(&mut d48, 2077);
+    build_line::<16384>(rt, "letters-2047", Words::new(map, &d47))?;
+    build_line::<16392>(rt, "letters-2048", Words::new(map, &d48))?;
+    Ok(())
 }
 
 // All words of one letter, and one of two letters.
-pub fn print_number_of_words(rt: &impl Print) -> io::Result<()> {
-    let mut table = [7u16; 2056];
-    let mut longer = [7u16; 2072];
-    let mut d256 = [0u8; 1024];
-    let mut d257 = [0u8; 1029];
-    put_words(&mut d256, 256, 1);
-    let at = put_words(&mut d257, 256, 1);
-    put_word(&mut d257, at, 97, 2);
-    build_line(rt, b"words-256", &d256, &mut table)?;
-    build_line(rt, b"words-257", &d257, &mut longer)
+pub fn print_number_of_words(rt: &impl Print, map: &[u8]) -> io::Result<()> {
+    let mut d256 = [0; 1024];
+    let mut d257 = [0; 1029];
+    write_words::<4>(&mut d256);
+    write_words_and_one::<4>(&mut d257, 1024);
+    build_line::<2056>(rt, "words-256", Words::new(map, &d256))?;
+    build_line::<2072>(rt, "words-257", Words::new(map, &d257))?;
+    Ok(())
 }
 
 // With room for ten states.
-fn bad_line(rt: &impl Print, name: &[u8], dict: &[u8]) -> io::Result<()> {
-    let mut table = [7u16; 80];
-    build_line(rt, name, dict, &mut table)
+fn bad_line(rt: &impl Print, name: &str, map: &[u8], dict: &[u8]) -> io::Result<()> {
+    build_line::<80>(rt, name, Words::new(map, dict))?;
+    Ok(())
 }
 
-pub fn print_bad_records(rt: &impl Print) -> io::Result<()> {
-    bad_line(rt, b"no-mark", b"WD\x01aWE\x01b")?;
-    bad_line(rt, b"one-byte-left", b"WD\x01aW")?;
-    bad_line(rt, b"block-mark", b"WD\x01aTB\x00\x00")?;
-    bad_line(rt, b"length-0", b"WD\x01aWD\x00")?;
-    bad_line(rt, b"no-length", b"WD\x01aWD")?;
-    bad_line(rt, b"word-cut", b"WD\x01aWD\x02b")?;
-    bad_line(rt, b"word-twice", b"WD\x01aWD\x01bWD\x01a")
+pub fn print_bad_records(rt: &impl Print, map: &[u8]) -> io::Result<()> {
+    bad_line(rt, "no-mark", map, b"WD\x01aWE\x01b")?;
+    bad_line(rt, "one-byte-left", map, b"WD\x01aW")?;
+    bad_line(rt, "block-mark", map, b"WD\x01aTB\x00\x00")?;
+    bad_line(rt, "length-0", map, b"WD\x01aWD\x00")?;
+    bad_line(rt, "no-length", map, b"WD\x01aWD")?;
+    bad_line(rt, "word-cut", map, b"WD\x01aWD\x02b")?;
+    bad_line(rt, "word-twice", map, b"WD\x01aWD\x01bWD\x01a")
 }

@@ -1,56 +1,56 @@
-// Records written into lent bytes. What finds no room is left out.
+// Records written into lent bytes.
+ghost use Rattle.std.specs.Prelude.{◌+◌, ◌≤◌, length};
 
-// One byte more. Told is the place after it.
-fn put(bytes: &mut [u8], at: usize, b: u8) -> usize {
-    if at < bytes.len() {
-        bytes[at] = b;
-        return at + 1;
+// The record of a word, so many times one letter as there is room for.
+pub fn write_word(bytes: &mut [u8], letter: u8)
+    requires { (3 ≤ length bytes.old) × (length bytes.old ≤ 258) }
+{
+    let len = (bytes.len() - 3) as u8;
+    bytes.fill(letter);
+    bytes[..3].copy_from_slice(&[b'W', b'D', len]);
+}
+
+// Words with the letters 0, 1, 2 and on, with records of N bytes each.
+pub fn write_words<const N: usize>(bytes: &mut [u8])
+    requires { (3 ≤ N) × (N ≤ 258) }
+{
+    let (words, _) = bytes.as_chunks_mut::<N>();
+    for (word, letter) in words.iter_mut().zip(0..=255) {
+        write_word(word, letter);
     }
-    at
 }
 
-fn put_letters(bytes: &mut [u8], at: usize, letter: u8, count: usize) -> usize {
-    let mut end = at;
-    for _ in 0..count {
-        end = put(bytes, end, letter);
+// .. and from an offset on one with the letter a.
+pub fn write_words_and_one<const N: usize>(bytes: &mut [u8], at: usize)
+    requires { (3 ≤ N) × (N ≤ 258) × (at + 3 ≤ length bytes.old) × (length bytes.old ≤ at + 258) }
+{
+    let (words, one) = bytes.split_at_mut(at);
+    write_words::<N>(words);
+    write_word(one, b'a');
+}
+
+// The record of a block, so many letters a as there is room for.
+fn write_block(bytes: &mut [u8])
+    requires { (4 ≤ length bytes.old) × (length bytes.old ≤ 65539) }
+{
+    let [low, high] = ((bytes.len() - 4) as u16).to_le_bytes();
+    bytes.fill(b'a');
+    bytes[..4].copy_from_slice(&[b'T', b'B', low, high]);
+}
+
+// Blocks with records of 4,096 bytes each.
+pub fn write_blocks(bytes: &mut [u8]) {
+    let (blocks, _) = bytes.as_chunks_mut::<4096>();
+    for block in blocks {
+        write_block(block);
     }
-    end
 }
 
-fn low_byte(n: usize) -> u8 {
-    (n % 256) as u8
-}
-
-// The record of a word of one letter, so many times.
-pub fn put_word(bytes: &mut [u8], at: usize, letter: u8, len: usize) -> usize {
-    let second = put(bytes, at, 87);
-    let third = put(bytes, second, 68);
-    let letters = put(bytes, third, low_byte(len));
-    put_letters(bytes, letters, letter, len)
-}
-
-// Words with the letters 0, 1, 2 and on, all of one length.
-pub fn put_words(bytes: &mut [u8], count: usize, len: usize) -> usize {
-    let mut end = 0;
-    for k in 0..count {
-        end = put_word(bytes, end, low_byte(k), len);
-    }
-    end
-}
-
-// The record of a block of so many letters a.
-pub fn put_block(bytes: &mut [u8], at: usize, len: usize) -> usize {
-    let second = put(bytes, at, 84);
-    let low = put(bytes, second, 66);
-    let high = put(bytes, low, low_byte(len));
-    let letters = put(bytes, high, low_byte(len / 256));
-    put_letters(bytes, letters, 97, len)
-}
-
-pub fn put_blocks(bytes: &mut [u8], count: usize, len: usize) -> usize {
-    let mut end = 0;
-    for _ in 0..count {
-        end = put_block(bytes, end, len);
-    }
-    end
+// The word a, and a block.
+pub fn write_word_and_block(bytes: &mut [u8])
+    requires { (8 ≤ length bytes.old) × (length bytes.old ≤ 65543) }
+{
+    let (word, block) = bytes.split_at_mut(4);
+    write_word(word, b'a');
+    write_block(block);
 }

@@ -5,24 +5,27 @@ use Rattle.meaning.proofs.Lists.{snoc-length}
 use Rattle.listing.specs.Positions.{Readable}
 use Rattle.listing.specs.Writing.{Written}
 use Rattle.listing.proofs.Steps.{word_number}
-use Rattle.listing.proofs.Lasts.{last_is, last_row, last_fits, readable_before, first_splits, first_longer}
-use Rattle.listing.proofs.Writes.{written_more}
+use Rattle.listing.proofs.Lasts.{last_is, no_last, no_letters, last_row, last_fits, readable_before, first_splits, first_longer}
+use Rattle.listing.proofs.Writes.{written_none, written_more}
 use Rattle.listing.proofs.leading.+write_first.Goals as goal
+
+pub returns-in_default : goal.returns-in_default
+returns-in_default t c X u ρ = written_none (no_letters X u (no_last _ ρ (c.in_default.ensures X u ρ.at)))
 
 pub depth-requires : goal.depth-requires
 depth-requires t c =
     let ρ = c.requires.2.readable in
-    last_row ρ (last_is _ ρ c.if-i-eq0.false (c.last_word-v.ensures _ _ ρ.at))
+    last_row ρ (last_is _ (c.in-Some.ensures _ _ ρ.at))
 
 pub overflow_sub-i : goal.overflow_sub-i
 overflow_sub-i t c =
     let ρ = c.requires.2.readable in
-    (last_fits ρ (last_is _ ρ c.if-i-eq0.false (c.last_word-v.ensures _ _ ρ.at)) c.depth.ensures.is).1
+    (last_fits ρ (last_is _ (c.in-Some.ensures _ _ ρ.at)) c.depth.ensures.is).1
 
 pub write_first-n-requires : goal.write_first-n-requires
 write_first-n-requires t c =
     let φ = c.requires.2 in
-    let w = last_is _ φ.readable c.if-i-eq0.false (c.last_word-v.ensures _ _ φ.readable.at) in
+    let w = last_is _ (c.in-Some.ensures _ _ φ.readable.at) in
     let e = c.depth.ensures.is in (
       omega (arith, last_fits φ.readable w e),
       (
@@ -38,7 +41,7 @@ write_first-n-requires t c =
 pub word-requires : goal.word-requires
 word-requires t c =
     let ρ = c.requires.2.readable in
-    last_row ρ (last_is _ ρ c.if-i-eq0.false (c.last_word-v.ensures _ _ ρ.at))
+    last_row ρ (last_is _ (c.in-Some.ensures _ _ ρ.at))
 
 -- what the call wrote, and what it is to be with the last word behind it
 record More (X : Words) (u : Word) (i : ℕ) (before after : List ℕ) (k m : ℕ) : Type 0 where
@@ -53,7 +56,7 @@ more : (t : ℕ) (c : goal.After-word t) (X : Words) (u : Word)
     Readable X u a.table.now a.states.now a.counts.now a.i
     → More X u a.i a.reading.now c.write_first-n.new.reading c.write_first-n.result c.word.result
 more t c X u ρ =
-    let w = last_is _ ρ c.if-i-eq0.false (c.last_word-v.ensures _ _ ρ.at) in
+    let w = last_is _ (c.in-Some.ensures _ _ ρ.at) in
     let d = c.depth in
     record {
       front = first_reading X u (c.args.i - d.result);

@@ -1,0 +1,2 @@
+-- What the cases' contracts cite.
+pub mod Cases
