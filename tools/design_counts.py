@@ -16,7 +16,10 @@ LINES = [
     ('6 arrays of a fixed length', r': \[\w+; ?\w+\]|: &(?:mut )?\[\w+; ?\w+\]|= \[[^;\]]*; ?\w+\]'),
     ('7 a switch on a step', r'\bform: Form\b|\bbook: bool\b|\bwidth: usize\b|\bmatch form\b'),
 ]
-HEAD = re.compile(r'^( *)(?:pub )?(?:extern "C" )?fn (\w+)')
+HEAD = re.compile(r'^( *)(?:pub(?:\(crate\))? )?(?:extern "C" )?fn (\w+)')
+
+# Words of a clause that are no facts: types and variants.
+NO_FACTS = {'Words', 'Word', 'Ok', 'Some'}
 
 
 def sources():
@@ -46,6 +49,15 @@ def functions():
             yield path, name, params, signature, '\n'.join(lines[opens + 1:end])
 
 
+def required(clauses):
+    for clause in re.finditer(r'\brequires(?: \w+)? \{', clauses):
+        depth, k = 1, clause.end()
+        while depth:
+            depth += {'{': 1, '}': -1}.get(clauses[k], 0)
+            k += 1
+        yield clauses[clause.end():k - 1]
+
+
 def shape(name, body):
     body = re.sub(r'//.*', '', body)
     body = re.sub(r'\b' + name + r'\b', 'SELF', body)
@@ -71,7 +83,7 @@ def main():
             alike[shape(name, body)].append(f'{path} {name}')
         for a, b in zip(params, params[1:]):
             runs[a, b].append(name)
-        for fact in set(re.findall(r'\b([A-Z]\w+) X\b', ' '.join(re.findall(r'requires(?: \w+)? \{(.*?)\}(?: (?=requires|ensures|\{)|$)', clauses)))):
+        for fact in set(re.findall(r'\b([A-Z][a-z]\w+) ', ' '.join(required(clauses)))) - NO_FACTS:
             facts[fact].append(name)
     twins = [', '.join(g) for g in alike.values() if len(g) > 1]
     show('2 bodies that differ in a type, a size or a constant at most', twins, verbose)

@@ -5,17 +5,20 @@ ghost use Rattle.tree.specs.Insertion.{Growing};
 ghost use Rattle.tree.specs.Filling.{Completed};
 ghost use Rattle.automaton.specs.Queue.{Settling, Settles, Taking, Taken};
 
-use crate::queue::Queue;
+use arrayvec::ArrayVec;
 use tree::{
     ChildIndex, NONE, border, child_border, count_chain, first_child, first_word, letter,
     next_sibling, set_border, set_chain_length, set_link,
 };
 
+// The states in the order in which they are gone through, with room for as many as there can be.
+type Queue = ArrayVec<u16, 2048>;
+
 // The border, the link and the chain's length of p's child c, which joins the queue.
 // The border's own row tells the link and the length: no border is climbed and no chain walked for them.
 fn settle(table: &mut [u16], index: &ChildIndex, queue: &mut Queue, p: usize, c: usize)
-    requires { (X S : Words) × Settling X S table.old index.now queue.old p c }
-    ensures { (X S : Words) → Settling X S table.old index.now queue.old p c → Settles X S table.old table.new index.now queue.old queue.new p c }
+    requires { (X S : Words) × Settling X S table.old index.now queue.old.items p c }
+    ensures { (X S : Words) → Settling X S table.old index.now queue.old.items p c → Settles X S table.old table.new index.now queue.old.items queue.new.items p c }
 {
     if border(table, c) != NONE {
         return;
@@ -26,13 +29,13 @@ fn settle(table: &mut [u16], index: &ChildIndex, queue: &mut Queue, p: usize, c:
     set_border(table, c, b);
     set_link(table, c, l);
     set_chain_length(table, c, k);
-    queue.push(c);
+    queue.push(c as u16);
 }
 
 // The same of the children of p, which join the queue.
 fn take_out(table: &mut [u16], index: &ChildIndex, queue: &mut Queue, p: usize)
-    requires { (X S : Words) × Taking X S table.old index.now queue.old p }
-    ensures { (X S : Words) → Taking X S table.old index.now queue.old p → Taken X S table.old table.new index.now queue.old queue.new p }
+    requires { (X S : Words) × Taking X S table.old index.now queue.old.items p }
+    ensures { (X S : Words) → Taking X S table.old index.now queue.old.items p → Taken X S table.old table.new index.now queue.old.items queue.new.items p }
 {
     let mut c = first_child(table, p);
     while c != NONE {
@@ -48,10 +51,11 @@ pub fn complete_rows(table: &mut [u16], index: &ChildIndex)
     requires { (X S : Words) × Growing X S table.old index.now (length S) }
     ensures { (X S : Words) → Growing X S table.old index.now (length S) → Completed X S table.old table.new }
 {
-    let mut queue = Queue::of_root();
+    let mut queue = Queue::new();
+    queue.push(0);
     let mut head = 0;
     while head < queue.len() {
-        let p = queue.get(head);
+        let p = usize::from(queue.as_slice()[head]);
         take_out(table, index, &mut queue, p);
         head += 1;
     }

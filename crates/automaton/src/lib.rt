@@ -4,7 +4,6 @@
 mod borders;
 mod building;
 mod lending;
-mod queue;
 mod rows;
 
 pub use building::Built;

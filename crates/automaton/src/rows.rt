@@ -3,7 +3,7 @@ ghost use Rattle.std.specs.Prelude.{◌≡◌, ◌≤◌, length, take};
 ghost use Rattle.meaning.specs.Words.{same};
 ghost use Rattle.meaning.specs.Table.{over};
 
-// Whether the first `end` numbers of two tables are the same. No turn ends the loop early, so several are taken at a time.
+// Whether the first `end` numbers of two tables are the same.
 pub fn same_numbers(lent: &[u16], table: &[u16], end: usize) -> bool
     requires { (end ≤ length lent.now) × (end ≤ length table.now) }
     ensures { result ≡ same (take end lent.now) (take end table.now) }

@@ -5,56 +5,35 @@ ghost use Rattle.letters.specs.Refusal.{number_of, at_start, refusal_text};
 use std::error::Error;
 use std::fmt;
 
-/// Why something lent is refused.
+/// Why something lent is refused: the numbers are those of document 01 and the requests.
 #[derive(Clone, Copy, Debug, PartialEq, Eq)]
 pub enum Reason {
-    WordMark,
-    WordLength,
-    CutWord,
-    ManyWords,
-    ManyLetters,
-    RepeatedWord,
-    ShortTable,
-    OtherTable,
-    LongText,
-    ShortColumns,
-    OtherColumns,
-    NoReading,
-    NotReading,
-    ShortBuffer,
-    BadBlock,
-    LongBook,
-    BadMap,
-    NoNumber,
-    GreatestCount,
+    WordMark = 1,
+    WordLength = 2,
+    CutWord = 3,
+    ManyWords = 4,
+    ManyLetters = 5,
+    RepeatedWord = 6,
+    ShortTable = 7,
+    OtherTable = 8,
+    LongText = 9,
+    ShortColumns = 10,
+    OtherColumns = 11,
+    NoReading = 12,
+    NotReading = 13,
+    ShortBuffer = 14,
+    BadBlock = 15,
+    LongBook = 16,
+    BadMap = 18,
+    NoNumber = 21,
+    GreatestCount = 22,
 }
 
 impl Reason {
-    /// Its number in document 01 and the requests.
     pub fn number(self) -> u16
         ensures { result ≡ number_of self }
     {
-        match self {
-            Reason::WordMark => 1,
-            Reason::WordLength => 2,
-            Reason::CutWord => 3,
-            Reason::ManyWords => 4,
-            Reason::ManyLetters => 5,
-            Reason::RepeatedWord => 6,
-            Reason::ShortTable => 7,
-            Reason::OtherTable => 8,
-            Reason::LongText => 9,
-            Reason::ShortColumns => 10,
-            Reason::OtherColumns => 11,
-            Reason::NoReading => 12,
-            Reason::NotReading => 13,
-            Reason::ShortBuffer => 14,
-            Reason::BadBlock => 15,
-            Reason::LongBook => 16,
-            Reason::BadMap => 18,
-            Reason::NoNumber => 21,
-            Reason::GreatestCount => 22,
-        }
+        self as u16
     }
 }
 

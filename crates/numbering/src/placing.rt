@@ -8,9 +8,9 @@ ghost use Rattle.numbering.specs.Places.{placed};
 use crate::lasts::ahead_of;
 use tree::depth;
 
-// The number of the reading that the first k entries are, of the text of m letters, if they are one: from the last word back, the readings that end
-// with a longer word come before it. They are found to be a reading on the way, so each chain is gone along once; however large k is,
-// at most m + 1 entries are looked at, 4,097 at the limits.
+// The number of the reading that the first k entries are, of the text of m letters, if they are one: from the last word back, the
+// readings that end with a longer word come before it. They are found to be a reading on the way, so each chain is gone along once;
+// however large k is, at most m + 1 entries are looked at, 4,097 at the limits.
 pub fn place(
     table: &[u16],
     states: &[u16],

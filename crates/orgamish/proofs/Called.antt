@@ -10,7 +10,7 @@ use Rattle.letters.proofs.Reasons.{some_number}
 use lib.ListN.{length}
 use borrow.Author.Tests.{lt-ltb, le-ltb}
 use Rattle.meaning.specs.Numbers.{longest_word}
-use Rattle.std.specs.Prelude.{if◌then◌else◌}
+use Rattle.std.specs.Prelude.{if◌then◌else◌, Result, Ok, Err}
 use Rattle.meaning.specs.Words.{Word, Words, word}
 use Rattle.meaning.specs.Automaton.{states, longest_chain}
 use Rattle.meaning.specs.Readings.{accepted, count_at}
@@ -44,6 +44,14 @@ module _ {test : Words → ℕ} {run : Run} {X : Words} {n : ℕ} (κ : Came tes
   pub came_leaves : (after : Words → List ℕ) (before : List ℕ) → left_by n (after X) before ≡ leaves test after before run
   came_leaves after before =
       ap (λ (k : ℕ). left_by k (after X) before) (sym κ.comes) ∙ ap (leaves test after before) (sym κ.is)
+
+-- two errors that are the same are told alike
+pub told_alike : {A : Type 0} {a b : Reason} → ◌≡◌ {A = Result A Reason} (Err a) (Err b) → refusal (number_of a) 0 ≡ refusal (number_of b) 0
+told_alike {A} {a} e = ap told e
+  where
+    told : Result A Reason → Told
+    told (Ok x) = refusal (number_of a) 0
+    told (Err r) = refusal (number_of r) 0
 
 -- a reason is told by its number, at place 0
 pub told_reason : (a : Reason) (values : List ℕ) → told_by (number_of a) values ≡ refusal (number_of a) 0

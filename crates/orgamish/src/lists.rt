@@ -26,10 +26,10 @@ pub fn first(
         × (reading.new ≡ first_leaves (words_under map.now dict.now) table.now (mapped map.now text.now) states.now counts.now reading.old) }
 {
     judge_list(map, dict, table, text, states, counts)?;
-    match first_reading(table, states, counts, text.len(), reading)? {
-        Some(words) => Ok(words as u16),
-        None => Err(Refusal::from(Reason::NoReading)),
-    }
+    let words = first_reading(table, states, counts, text.len(), reading)?.ok_or(
+        Reason::NoReading,
+    )?;
+    Ok(words as u16)
 }
 
 // Whether so many entries are given, and are a reading of the text of m letters.

@@ -24,10 +24,10 @@ pub fn jump(
         × (reading.new ≡ jump_leaves (words_under map.now dict.now) table.now (mapped map.now text.now) states.now counts.now reading.old n) }
 {
     judge_count(map, dict, table, text, states, counts)?;
-    match numbered_reading(table, states, counts, text.len(), reading, n)? {
-        Some(words) => Ok(words as u16),
-        None => Err(Refusal::from(Reason::NoNumber)),
-    }
+    let words = numbered_reading(table, states, counts, text.len(), reading, n)?.ok_or(
+        Reason::NoNumber,
+    )?;
+    Ok(words as u16)
 }
 
 // The number of the reading that the first entries are, so many as are given.
@@ -47,8 +47,6 @@ pub fn place(
     if reading.len() < given {
         return Err(Refusal::from(Reason::NotReading));
     }
-    match number_of(table, states, counts, text.len(), reading, given) {
-        Some(n) => Ok(n),
-        None => Err(Refusal::from(Reason::NotReading)),
-    }
+    let n = number_of(table, states, counts, text.len(), reading, given).ok_or(Reason::NotReading)?;
+    Ok(n)
 }

@@ -1,5 +1,6 @@
-// Runs the examples, the limits from both sides and every refusal of each public call. A line is a vector's name and what the call told: numbers, `end`, or
-// `refused` with number and place. After the refusal of a call that writes stands whether all lent memory was kept.
+// Runs the examples, the limits from both sides and every refusal of each public call. A line is a vector's name and what the call
+// told: numbers, `end`, or `refused` with number and place. After the refusal of a call that writes stands whether all lent memory
+// was kept.
 #![tactic(auto)]
 
 mod books;

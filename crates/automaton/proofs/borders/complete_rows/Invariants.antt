@@ -7,7 +7,7 @@ use Rattle.automaton.proofs.borders.complete_rows.Given as goal
 
 abbrev pub invariant-loop-head : goal.invariant-loop-head
 invariant-loop-head l =
-    (X S : Words) → Growing X S l.initial.table l.index (length S) → Going X S l.initial.table l.table l.index l.queue l.head
+    (X S : Words) → Growing X S l.initial.table l.index (length S) → Going X S l.initial.table l.table l.index l.queue.items l.head
 
 abbrev pub decreases-loop-head : goal.decreases-loop-head
 decreases-loop-head l = most_states - l.head

@@ -57,10 +57,13 @@ push-requires c =
     let read = c.letter.ensures.is in
     let is = c.child_border-b.ensures X S (bordered σ.taking) in
     let link = c.first_word-l.ensures X S (border_linked σ read is) in
-    let chain = c.count_chain-k.ensures X S (border_counted σ read is) in (
-      room σ read is link chain (sym c.border.ensures.is ∙ c.if-border-ne-NONE.false),
-      omega (arith, child_inside σ, σ.taking.queued.tree.states.few),
-    )
+    let chain = c.count_chain-k.ensures X S (border_counted σ read is) in
+    (omega arith, room σ read is link chain (sym c.border.ensures.is ∙ c.if-border-ne-NONE.false))
+
+pub overflow_cast-c : goal.overflow_cast-c
+overflow_cast-c c =
+    let (X, S, σ) = c.requires in
+    omega (arith, child_inside σ, σ.taking.queued.tree.states.few)
 
 pub returns : goal.returns
 returns c X S σ =
@@ -68,5 +71,5 @@ returns c X S σ =
     let is = c.child_border-b.ensures X S (bordered σ.taking) in
     let link = c.first_word-l.ensures X S (border_linked σ read is) in
     let chain = c.count_chain-k.ensures X S (border_counted σ read is) in
-    rw (c.push.ensures, c.set_chain_length.ensures, c.set_link.ensures, c.set_border.ensures)
+    rw (c.push.ensures.items, c.set_chain_length.ensures, c.set_link.ensures, c.set_border.ensures)
     (settles σ read is link chain (sym c.border.ensures.is ∙ c.if-border-ne-NONE.false))

@@ -6,8 +6,8 @@ use Rattle.automaton.proofs.borders.take_out.Given as goal
 
 abbrev pub invariant-loop-c : goal.invariant-loop-c
 invariant-loop-c l =
-    (X S : Words) → Taking X S l.initial.table l.index l.initial.queue l.p
-    → Filling X S l.initial.table l.table l.index l.initial.queue l.queue l.p l.c
+    (X S : Words) → Taking X S l.initial.table l.index l.initial.queue.items l.p
+    → Filling X S l.initial.table l.table l.index l.initial.queue.items l.queue.items l.p l.c
 
 abbrev pub decreases-loop-c : goal.decreases-loop-c
 decreases-loop-c l = left l.table l.c

@@ -1,6 +1,9 @@
 use Rattle.std.proofs.Common.{◌≡◌, ◌<◌, ℕ, List, [], arith, sym, ap, ◌∙◌}
 use Rattle.std.proofs.lemmas.Result.{err_from_is_err_and}
-use Rattle.std.specs.Prelude.{Ok, None, Some}
+use Rattle.std.specs.Prelude.{Option as Maybe, Ok, Some}
+use Rattle.std.specs.Result.{result_ok}
+use Rattle.std.specs.Option.{ok_or}
+use Rattle.letters.specs.declared.refusal.Reason.TheVariants.{NoReading}
 use mathlib.Core.List.{head?}
 use mathlib.Core.Option.{Option}
 use Rattle.meaning.specs.Words.{Word, Words, Reading}
@@ -13,7 +16,7 @@ use Rattle.judging.specs.Under.{words_under}
 use Rattle.judging.specs.Order.{◌and_then◌, list_refusal, unread_refusal, fit_refusal}
 use Rattle.judging.proofs.Verdicts.{Passes, refused_before, told_from}
 use Rattle.orgamish.specs.Calls.{told_by, length_of, listed, first_tells, first_leaves}
-use Rattle.orgamish.proofs.Called.{tells_refused, leaves_refused, told_reason}
+use Rattle.orgamish.proofs.Called.{tells_refused, leaves_refused, told_reason, told_alike}
 use Rattle.orgamish.proofs.Listings.{Listed, number_by, values_by, first_number, answer_told, answer_left, answer_words, first_fits}
 use Rattle.orgamish.proofs.Asked.{may_list, listed_allowed, whole, listed_short}
 use Rattle.orgamish.proofs.lists.first.Goals as goal
@@ -53,16 +56,16 @@ first-requires c =
       whole m c.args.dict.now c.args.table.now c.args.text.now c.args.states.now c.args.counts.now bytes told,
     )
 
-pub returns-in_err-words : goal.returns-in_err-words
-returns-in_err-words c =
+pub returns-in_err-first : goal.returns-in_err-first
+returns-in_err-first c =
     let m = c.args.map.now in
     let t = mapped m c.args.text.now in
     let bytes : (x : ℕ) → letter m x < letter_values = λ x. omega (arith, c.type_inv.map x) in
     let told = c.in_ok-judge_list.ensures in
     let p = may_list m c.args.dict.now c.args.table.now c.args.text.now c.args.states.now c.args.counts.now bytes told in
     let w = whole m c.args.dict.now c.args.table.now c.args.text.now c.args.states.now c.args.counts.now bytes told in
-    let q = err_from_is_err_and c.from_residual-in_err-words.result c.from_residual-in_err-words.ensures.1 in
-    let o = outcome (words_under m c.args.dict.now) c.args.table.now t c.args.states.now c.args.counts.now c.args.reading.now c.first.new.reading p (c.first.ensures p.X t w) _ (sym c.in_err-words.was) in
+    let q = err_from_is_err_and c.from_residual-in_err-first.result c.from_residual-in_err-first.ensures.1 in
+    let o = outcome (words_under m c.args.dict.now) c.args.table.now t c.args.states.now c.args.counts.now c.args.reading.now c.first.new.reading p (c.first.ensures p.X t w) _ (sym c.in_err-first.was) in
     rw q.1 (told_from q.2 ∙ sym (told_reason _ []) ∙ o.0, o.1)
 
 pub overflow_cast-result : goal.overflow_cast-result
@@ -73,31 +76,33 @@ overflow_cast-result c =
     let told = c.in_ok-judge_list.ensures in
     let p = may_list m c.args.dict.now c.args.table.now c.args.text.now c.args.states.now c.args.counts.now bytes told in
     let w = whole m c.args.dict.now c.args.table.now c.args.text.now c.args.states.now c.args.counts.now bytes told in
-    let written : Ok (Some c.in-Some.words) ≡ c.first.result = sym (c.in_ok-words.was ∙ ap Ok c.in-Some.is) in
+    let written : Ok (Some c.in_ok-words.words) ≡ c.first.result = sym (c.in_ok-first.was ∙ ap Ok (c.ok_or.ensures.ok_part ∙ ap result_ok c.in_ok-words.was)) in
     let short = listed_short m c.args.dict.now c.args.table.now c.args.text.now c.args.states.now c.args.counts.now bytes told in
     let α = listed_allowed m c.args.dict.now c.args.table.now c.args.text.now c.args.states.now c.args.counts.now bytes told in
     let (ws, is, n) = answer_words (head? (readings p.X t)) c.args.reading.now (written ∙ (c.first.ensures p.X t w).answers) in
     omega (arith, n, first_fits p.X α.storable.dictionary t ws is, short)
 
-pub returns-in-Some : goal.returns-in-Some
-returns-in-Some c =
+pub returns-in_err-words : goal.returns-in_err-words
+returns-in_err-words c =
     let m = c.args.map.now in
     let t = mapped m c.args.text.now in
     let bytes : (x : ℕ) → letter m x < letter_values = λ x. omega (arith, c.type_inv.map x) in
     let told = c.in_ok-judge_list.ensures in
     let p = may_list m c.args.dict.now c.args.table.now c.args.text.now c.args.states.now c.args.counts.now bytes told in
     let w = whole m c.args.dict.now c.args.table.now c.args.text.now c.args.states.now c.args.counts.now bytes told in
-    let written : Ok (Some c.in-Some.words) ≡ c.first.result = sym (c.in_ok-words.was ∙ ap Ok c.in-Some.is) in
-    outcome (words_under m c.args.dict.now) c.args.table.now t c.args.states.now c.args.counts.now c.args.reading.now c.first.new.reading p (c.first.ensures p.X t w) _ written
+    let none = c.ok_or.ensures.ok_part ∙ ap result_ok c.in_err-words.was in
+    let o = outcome (words_under m c.args.dict.now) c.args.table.now t c.args.states.now c.args.counts.now c.args.reading.now c.first.new.reading p (c.first.ensures p.X t w) _ (sym (c.in_ok-first.was ∙ ap Ok none)) in
+    let q = err_from_is_err_and c.from_residual-in_err-words.result c.from_residual-in_err-words.ensures.1 in
+    let alike = told_alike (sym c.in_err-words.was ∙ c.ok_or.ensures.value ∙ ap (λ (o : Maybe ℕ). ok_or o NoReading) none) in
+    rw q.1 (told_from q.2 ∙ alike ∙ o.0, o.1)
 
-pub returns-in-None : goal.returns-in-None
-returns-in-None c =
+pub returns : goal.returns
+returns c =
     let m = c.args.map.now in
     let t = mapped m c.args.text.now in
     let bytes : (x : ℕ) → letter m x < letter_values = λ x. omega (arith, c.type_inv.map x) in
     let told = c.in_ok-judge_list.ensures in
     let p = may_list m c.args.dict.now c.args.table.now c.args.text.now c.args.states.now c.args.counts.now bytes told in
     let w = whole m c.args.dict.now c.args.table.now c.args.text.now c.args.states.now c.args.counts.now bytes told in
-    let none : Ok None ≡ c.first.result = sym (c.in_ok-words.was ∙ ap Ok c.in-None.is) in
-    let o = outcome (words_under m c.args.dict.now) c.args.table.now t c.args.states.now c.args.counts.now c.args.reading.now c.first.new.reading p (c.first.ensures p.X t w) _ none in
-    (told_from c.from.ensures ∙ o.0, o.1)
+    let written : Ok (Some c.in_ok-words.words) ≡ c.first.result = sym (c.in_ok-first.was ∙ ap Ok (c.ok_or.ensures.ok_part ∙ ap result_ok c.in_ok-words.was)) in
+    outcome (words_under m c.args.dict.now) c.args.table.now t c.args.states.now c.args.counts.now c.args.reading.now c.first.new.reading p (c.first.ensures p.X t w) _ written

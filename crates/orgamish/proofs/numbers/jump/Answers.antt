@@ -1,6 +1,9 @@
 use Rattle.std.proofs.Common.{◌≡◌, ◌<◌, ℕ, List, [], length, arith, sym, ap, ◌∙◌}
 use Rattle.std.proofs.lemmas.Result.{err_from_is_err_and}
-use Rattle.std.specs.Prelude.{Ok, None, Some}
+use Rattle.std.specs.Prelude.{Option as Maybe, Ok, Some}
+use Rattle.std.specs.Result.{result_ok}
+use Rattle.std.specs.Option.{ok_or}
+use Rattle.letters.specs.declared.refusal.Reason.TheVariants.{NoNumber}
 use mathlib.Core.Option.{Option}
 use lib.ListN.{get_elem?}
 use Rattle.meaning.specs.Numbers.{letter_values}
@@ -14,7 +17,7 @@ use Rattle.judging.specs.Under.{words_under}
 use Rattle.judging.specs.Order.{◌and_then◌, counted_refusal, number_refusal, fit_refusal}
 use Rattle.judging.proofs.Verdicts.{Passes, refused_before, told_from}
 use Rattle.orgamish.specs.Calls.{told_by, length_of, listed, jump_tells, jump_leaves}
-use Rattle.orgamish.proofs.Called.{tells_refused, leaves_refused, told_reason}
+use Rattle.orgamish.proofs.Called.{tells_refused, leaves_refused, told_reason, told_alike}
 use Rattle.orgamish.proofs.Listings.{Listed, number_by, values_by, jump_number, answer_told, answer_left, answer_words, elem_fits}
 use Rattle.orgamish.proofs.Asked.{may_count, counted_allowed, exact, counted_short}
 use Rattle.orgamish.proofs.numbers.jump.Goals as goal
@@ -54,16 +57,16 @@ jump-requires c =
     let p = may_count m c.args.dict.now c.args.table.now c.args.text.now c.args.states.now c.args.counts.now bytes told in
     (p.X, t, exact m c.args.dict.now c.args.table.now c.args.text.now c.args.states.now c.args.counts.now bytes told)
 
-pub returns-in_err-words : goal.returns-in_err-words
-returns-in_err-words c =
+pub returns-in_err-jump : goal.returns-in_err-jump
+returns-in_err-jump c =
     let m = c.args.map.now in
     let t = mapped m c.args.text.now in
     let bytes : (x : ℕ) → letter m x < letter_values = λ x. omega (arith, c.type_inv.map x) in
     let told = c.in_ok-judge_count.ensures in
     let p = may_count m c.args.dict.now c.args.table.now c.args.text.now c.args.states.now c.args.counts.now bytes told in
     let x = exact m c.args.dict.now c.args.table.now c.args.text.now c.args.states.now c.args.counts.now bytes told in
-    let q = err_from_is_err_and c.from_residual-in_err-words.result c.from_residual-in_err-words.ensures.1 in
-    let o = outcome (words_under m c.args.dict.now) c.args.table.now t c.args.states.now c.args.counts.now c.args.reading.now c.jump.new.reading c.args.n p x.exact (c.jump.ensures p.X t x) _ (sym c.in_err-words.was) in
+    let q = err_from_is_err_and c.from_residual-in_err-jump.result c.from_residual-in_err-jump.ensures.1 in
+    let o = outcome (words_under m c.args.dict.now) c.args.table.now t c.args.states.now c.args.counts.now c.args.reading.now c.jump.new.reading c.args.n p x.exact (c.jump.ensures p.X t x) _ (sym c.in_err-jump.was) in
     rw q.1 (told_from q.2 ∙ sym (told_reason _ []) ∙ o.0, o.1)
 
 pub overflow_cast-result : goal.overflow_cast-result
@@ -74,31 +77,33 @@ overflow_cast-result c =
     let told = c.in_ok-judge_count.ensures in
     let p = may_count m c.args.dict.now c.args.table.now c.args.text.now c.args.states.now c.args.counts.now bytes told in
     let x = exact m c.args.dict.now c.args.table.now c.args.text.now c.args.states.now c.args.counts.now bytes told in
-    let written : Ok (Some c.in-Some.words) ≡ c.jump.result = sym (c.in_ok-words.was ∙ ap Ok c.in-Some.is) in
+    let written : Ok (Some c.in_ok-words.words) ≡ c.jump.result = sym (c.in_ok-jump.was ∙ ap Ok (c.ok_or.ensures.ok_part ∙ ap result_ok c.in_ok-words.was)) in
     let short = counted_short m c.args.dict.now c.args.table.now c.args.text.now c.args.states.now c.args.counts.now bytes told in
     let α = counted_allowed m c.args.dict.now c.args.table.now c.args.text.now c.args.states.now c.args.counts.now bytes told in
     let (ws, is, n) = answer_words (get_elem? (readings p.X t) c.args.n) c.args.reading.now (written ∙ (c.jump.ensures p.X t x).answers) in
     omega (arith, n, elem_fits p.X α.storable.dictionary t c.args.n ws is, short)
 
-pub returns-in-Some : goal.returns-in-Some
-returns-in-Some c =
+pub returns-in_err-words : goal.returns-in_err-words
+returns-in_err-words c =
     let m = c.args.map.now in
     let t = mapped m c.args.text.now in
     let bytes : (x : ℕ) → letter m x < letter_values = λ x. omega (arith, c.type_inv.map x) in
     let told = c.in_ok-judge_count.ensures in
     let p = may_count m c.args.dict.now c.args.table.now c.args.text.now c.args.states.now c.args.counts.now bytes told in
     let x = exact m c.args.dict.now c.args.table.now c.args.text.now c.args.states.now c.args.counts.now bytes told in
-    let written : Ok (Some c.in-Some.words) ≡ c.jump.result = sym (c.in_ok-words.was ∙ ap Ok c.in-Some.is) in
-    outcome (words_under m c.args.dict.now) c.args.table.now t c.args.states.now c.args.counts.now c.args.reading.now c.jump.new.reading c.args.n p x.exact (c.jump.ensures p.X t x) _ written
+    let none = c.ok_or.ensures.ok_part ∙ ap result_ok c.in_err-words.was in
+    let o = outcome (words_under m c.args.dict.now) c.args.table.now t c.args.states.now c.args.counts.now c.args.reading.now c.jump.new.reading c.args.n p x.exact (c.jump.ensures p.X t x) _ (sym (c.in_ok-jump.was ∙ ap Ok none)) in
+    let q = err_from_is_err_and c.from_residual-in_err-words.result c.from_residual-in_err-words.ensures.1 in
+    let alike = told_alike (sym c.in_err-words.was ∙ c.ok_or.ensures.value ∙ ap (λ (o : Maybe ℕ). ok_or o NoNumber) none) in
+    rw q.1 (told_from q.2 ∙ alike ∙ o.0, o.1)
 
-pub returns-in-None : goal.returns-in-None
-returns-in-None c =
+pub returns : goal.returns
+returns c =
     let m = c.args.map.now in
     let t = mapped m c.args.text.now in
     let bytes : (x : ℕ) → letter m x < letter_values = λ x. omega (arith, c.type_inv.map x) in
     let told = c.in_ok-judge_count.ensures in
     let p = may_count m c.args.dict.now c.args.table.now c.args.text.now c.args.states.now c.args.counts.now bytes told in
     let x = exact m c.args.dict.now c.args.table.now c.args.text.now c.args.states.now c.args.counts.now bytes told in
-    let none : Ok None ≡ c.jump.result = sym (c.in_ok-words.was ∙ ap Ok c.in-None.is) in
-    let o = outcome (words_under m c.args.dict.now) c.args.table.now t c.args.states.now c.args.counts.now c.args.reading.now c.jump.new.reading c.args.n p x.exact (c.jump.ensures p.X t x) _ none in
-    (told_from c.from.ensures ∙ o.0, o.1)
+    let written : Ok (Some c.in_ok-words.words) ≡ c.jump.result = sym (c.in_ok-jump.was ∙ ap Ok (c.ok_or.ensures.ok_part ∙ ap result_ok c.in_ok-words.was)) in
+    outcome (words_under m c.args.dict.now) c.args.table.now t c.args.states.now c.args.counts.now c.args.reading.now c.jump.new.reading c.args.n p x.exact (c.jump.ensures p.X t x) _ written
