@@ -26,9 +26,8 @@ pub fn first(
         × (reading.new ≡ first_leaves (words_under map.now dict.now) table.now (mapped map.now text.now) states.now counts.now reading.old) }
 {
     judge_list(map, dict, table, text, states, counts)?;
-    let words = first_reading(table, states, counts, text.len(), reading)?.ok_or(
-        Reason::NoReading,
-    )?;
+    let listed = first_reading(table, states, counts, text.len(), reading)?;
+    let words = listed.ok_or(Reason::NoReading)?;
     Ok(words as u16)
 }
 

@@ -24,9 +24,8 @@ pub fn jump(
         × (reading.new ≡ jump_leaves (words_under map.now dict.now) table.now (mapped map.now text.now) states.now counts.now reading.old n) }
 {
     judge_count(map, dict, table, text, states, counts)?;
-    let words = numbered_reading(table, states, counts, text.len(), reading, n)?.ok_or(
-        Reason::NoNumber,
-    )?;
+    let listed = numbered_reading(table, states, counts, text.len(), reading, n)?;
+    let words = listed.ok_or(Reason::NoNumber)?;
     Ok(words as u16)
 }
 

@@ -57,16 +57,16 @@ jump-requires c =
     let p = may_count m c.args.dict.now c.args.table.now c.args.text.now c.args.states.now c.args.counts.now bytes told in
     (p.X, t, exact m c.args.dict.now c.args.table.now c.args.text.now c.args.states.now c.args.counts.now bytes told)
 
-pub returns-in_err-jump : goal.returns-in_err-jump
-returns-in_err-jump c =
+pub returns-in_err-listed : goal.returns-in_err-listed
+returns-in_err-listed c =
     let m = c.args.map.now in
     let t = mapped m c.args.text.now in
     let bytes : (x : ℕ) → letter m x < letter_values = λ x. omega (arith, c.type_inv.map x) in
     let told = c.in_ok-judge_count.ensures in
     let p = may_count m c.args.dict.now c.args.table.now c.args.text.now c.args.states.now c.args.counts.now bytes told in
     let x = exact m c.args.dict.now c.args.table.now c.args.text.now c.args.states.now c.args.counts.now bytes told in
-    let q = err_from_is_err_and c.from_residual-in_err-jump.result c.from_residual-in_err-jump.ensures.1 in
-    let o = outcome (words_under m c.args.dict.now) c.args.table.now t c.args.states.now c.args.counts.now c.args.reading.now c.jump.new.reading c.args.n p x.exact (c.jump.ensures p.X t x) _ (sym c.in_err-jump.was) in
+    let q = err_from_is_err_and c.from_residual-in_err-listed.result c.from_residual-in_err-listed.ensures.1 in
+    let o = outcome (words_under m c.args.dict.now) c.args.table.now t c.args.states.now c.args.counts.now c.args.reading.now c.jump.new.reading c.args.n p x.exact (c.jump.ensures p.X t x) _ (sym c.in_err-listed.was) in
     rw q.1 (told_from q.2 ∙ sym (told_reason _ []) ∙ o.0, o.1)
 
 pub overflow_cast-result : goal.overflow_cast-result
@@ -77,7 +77,7 @@ overflow_cast-result c =
     let told = c.in_ok-judge_count.ensures in
     let p = may_count m c.args.dict.now c.args.table.now c.args.text.now c.args.states.now c.args.counts.now bytes told in
     let x = exact m c.args.dict.now c.args.table.now c.args.text.now c.args.states.now c.args.counts.now bytes told in
-    let written : Ok (Some c.in_ok-words.words) ≡ c.jump.result = sym (c.in_ok-jump.was ∙ ap Ok (c.ok_or.ensures.ok_part ∙ ap result_ok c.in_ok-words.was)) in
+    let written : Ok (Some c.in_ok-words.words) ≡ c.jump.result = sym (c.in_ok-listed.was ∙ ap Ok (c.ok_or.ensures.ok_part ∙ ap result_ok c.in_ok-words.was)) in
     let short = counted_short m c.args.dict.now c.args.table.now c.args.text.now c.args.states.now c.args.counts.now bytes told in
     let α = counted_allowed m c.args.dict.now c.args.table.now c.args.text.now c.args.states.now c.args.counts.now bytes told in
     let (ws, is, n) = answer_words (get_elem? (readings p.X t) c.args.n) c.args.reading.now (written ∙ (c.jump.ensures p.X t x).answers) in
@@ -92,7 +92,7 @@ returns-in_err-words c =
     let p = may_count m c.args.dict.now c.args.table.now c.args.text.now c.args.states.now c.args.counts.now bytes told in
     let x = exact m c.args.dict.now c.args.table.now c.args.text.now c.args.states.now c.args.counts.now bytes told in
     let none = c.ok_or.ensures.ok_part ∙ ap result_ok c.in_err-words.was in
-    let o = outcome (words_under m c.args.dict.now) c.args.table.now t c.args.states.now c.args.counts.now c.args.reading.now c.jump.new.reading c.args.n p x.exact (c.jump.ensures p.X t x) _ (sym (c.in_ok-jump.was ∙ ap Ok none)) in
+    let o = outcome (words_under m c.args.dict.now) c.args.table.now t c.args.states.now c.args.counts.now c.args.reading.now c.jump.new.reading c.args.n p x.exact (c.jump.ensures p.X t x) _ (sym (c.in_ok-listed.was ∙ ap Ok none)) in
     let q = err_from_is_err_and c.from_residual-in_err-words.result c.from_residual-in_err-words.ensures.1 in
     let alike = told_alike (sym c.in_err-words.was ∙ c.ok_or.ensures.value ∙ ap (λ (o : Maybe ℕ). ok_or o NoNumber) none) in
     rw q.1 (told_from q.2 ∙ alike ∙ o.0, o.1)
@@ -105,5 +105,5 @@ returns c =
     let told = c.in_ok-judge_count.ensures in
     let p = may_count m c.args.dict.now c.args.table.now c.args.text.now c.args.states.now c.args.counts.now bytes told in
     let x = exact m c.args.dict.now c.args.table.now c.args.text.now c.args.states.now c.args.counts.now bytes told in
-    let written : Ok (Some c.in_ok-words.words) ≡ c.jump.result = sym (c.in_ok-jump.was ∙ ap Ok (c.ok_or.ensures.ok_part ∙ ap result_ok c.in_ok-words.was)) in
+    let written : Ok (Some c.in_ok-words.words) ≡ c.jump.result = sym (c.in_ok-listed.was ∙ ap Ok (c.ok_or.ensures.ok_part ∙ ap result_ok c.in_ok-words.was)) in
     outcome (words_under m c.args.dict.now) c.args.table.now t c.args.states.now c.args.counts.now c.args.reading.now c.jump.new.reading c.args.n p x.exact (c.jump.ensures p.X t x) _ written
