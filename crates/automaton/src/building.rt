@@ -45,7 +45,8 @@ fn build_wide(map: &[u8], dict: &[u8], words: usize, table: &mut [u16]) -> Built
     Built { states, longest }
 }
 
-// The same without chain lengths.
+// The same without chain lengths. Kept out of its callers, whose frames would have room for its table even where none is made.
+#[inline(never)]
 fn build_narrow(map: &[u8], dict: &[u8], words: usize, narrow: &mut [u16]) -> Built
     requires { (X : Words) × Buildable Narrow X map.now dict.now words narrow.old }
     ensures { (X : Words) → Buildable Narrow X map.now dict.now words narrow.old → Builds Narrow X narrow.old narrow.new result.states result.longest }

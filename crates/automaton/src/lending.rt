@@ -34,7 +34,9 @@ pub fn judge_table(
     Ok(())
 }
 
-// Made in a local array, and copied if it fits.
+// Made in a local array, and copied if it fits. Kept out of its callers, whose frames would have room for the array even where none
+// is made.
+#[inline(never)]
 fn write_copy(
     map: &[u8],
     dict: &[u8],

@@ -32,7 +32,8 @@ pub fn scan(
         → Scans X (mapped map.now text.now) states.old states.new
         counts.old counts.new result.farthest result.count result.probes }
 {
-    let index = ChildIndex::of(table);
+    let mut index = ChildIndex::new();
+    index.note_tree(table);
     states[0] = 0;
     counts[0] = 1;
     let mut count: u64 = 1;

@@ -12,7 +12,7 @@ use crate::children::{Place, child_by, seek};
 use crate::layout::{NONE, depth, first_child, letter, next_sibling, present};
 
 // What the index has for a letter without a child, and for a row without an owner: a number, as an Option would take twice the stack.
-const NO_CHILD: u16 = 65535;
+pub const NO_CHILD: u16 = 65535;
 
 // The numbers of a block: one for each letter.
 const LETTERS: usize = 256;
@@ -22,7 +22,7 @@ const ROWS: usize = 16;
 
 const BLOCKS: usize = ROWS + 1;
 
-#[derive(Drop)]
+#[derive(Clone, Copy)]
 pub struct ChildIndex {
     // The children by each letter: of the root in block 0, and in block r + 1 of the state that owns row r.
     blocks: [[u16; LETTERS]; BLOCKS],
@@ -56,21 +56,30 @@ impl ChildIndex {
         }
     }
 
-    // The index of a tree. Goes along the root's children twice, and once along those of the states that own a row: at most 256 turns
-    // more than there are states.
+    // The index of a tree.
     pub fn of(table: &[u16]) -> ChildIndex
         requires { (X S : Words) × Tree X S table.now }
         ensures { (X S : Words) → Tree X S table.now → Indexed S result }
     {
         let mut index = ChildIndex::new();
-        index.note_children(table, 0, 0);
+        index.note_tree(table);
+        index
+    }
+
+    // Notes in a vacant index the children of the root, and of each state that takes a row. Goes along the root's children twice, and
+    // once along those of the states that own a row: at most 256 turns more than there are states.
+    pub fn note_tree(&mut self, table: &[u16])
+        requires tree { (X S : Words) × Tree X S table.now }
+        requires vacant { Vacant self.old }
+        ensures { (X S : Words) → Tree X S table.now → Indexed S self.new }
+    {
+        self.note_children(table, 0, 0);
         let mut c = first_child(table, 0);
         while c != NONE {
             let x = letter(table, c);
-            index.take_row(table, x, c);
+            self.take_row(table, x, c);
             c = next_sibling(table, c);
         }
-        index
     }
 
     // The children of state p are noted in block k. Goes along them once, at most 256.
@@ -127,7 +136,7 @@ impl ChildIndex {
     }
 
     // The root's child by the letter a.
-    pub(crate) fn root_child(&self, a: usize) -> Option<usize>
+    pub fn root_child(&self, a: usize) -> Option<usize>
         requires { a < letter_values }
         ensures { result ≡ present (cell self.now 0 a) }
     {

@@ -9,7 +9,7 @@ mod layout;
 mod stepping;
 
 pub use chains::{count_chain, first_word, longest_chain};
-pub use index::ChildIndex;
+pub use index::{ChildIndex, NO_CHILD};
 pub use insertion::insert_word;
 pub use layout::{
     Form, MOST_NUMBERS, NONE, add_row, border, chain_length, depth, first_child, letter, link,

@@ -23,6 +23,8 @@ pub fn print_table_room(rt: &impl Print, set_e: Words) -> io::Result<()> {
     Ok(())
 }
 
+// This and the two below are kept out of main, whose frame would have room for all their tables throughout.
+#[inline(never)]
 pub fn print_word_lengths(rt: &impl Print, map: &[u8]) -> io::Result<()> {
     let mut d64 = [0; 67];
     let mut d65 = [0; 68];
@@ -34,6 +36,7 @@ pub fn print_word_lengths(rt: &impl Print, map: &[u8]) -> io::Result<()> {
 }
 
 // 31 words of 64 letters, and one of 63 or 64 letters.
+#[inline(never)]
 pub fn print_letters_in_all(rt: &impl Print, map: &[u8]) -> io::Result<()> {
     let mut d47 = [0; 2143];
     let mut d48 = [0; 2144];
@@ -45,6 +48,7 @@ pub fn print_letters_in_all(rt: &impl Print, map: &[u8]) -> io::Result<()> {
 }
 
 // All words of one letter, and one of two letters.
+#[inline(never)]
 pub fn print_number_of_words(rt: &impl Print, map: &[u8]) -> io::Result<()> {
     let mut d256 = [0; 1024];
     let mut d257 = [0; 1029];

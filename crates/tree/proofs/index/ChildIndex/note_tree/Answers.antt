@@ -1,32 +1,32 @@
 use Rattle.std.proofs.Common.{arith}
 use Rattle.tree.proofs.Walk.{state_row, left_less}
 use Rattle.tree.proofs.Indexing.{root_state, rowing, row_child, one_letter, row_on}
-use Rattle.tree.proofs.index.ChildIndex.of.Goals as goal
+use Rattle.tree.proofs.index.ChildIndex.note_tree.Goals as goal
 
 pub note_children-requires-clause-room : goal.note_children-requires-clause-room
-note_children-requires-clause-room c = (omega arith, c.new-index.ensures.blocks 0 (omega arith))
+note_children-requires-clause-room c = (omega arith, c.requires.vacant.blocks 0 (omega arith))
 
 pub loop-c-init : goal.loop-c-init
-loop-c-init c X S τ = rowing τ c.new-index.ensures (c.note_children.ensures X S (root_state τ)) c.first_child-c.ensures.is
+loop-c-init c X S τ = rowing τ c.requires.vacant (c.note_children.ensures X S (root_state τ)) c.first_child-c.ensures.is
 
 pub letter-x-requires : goal.letter-x-requires
 letter-x-requires c =
-    let (X, S, τ) = c.requires in
+    let (X, S, τ) = c.requires.tree in
     state_row τ (row_child τ (c.loop-c.invariant X S τ) c.loop-c-test.true).inside
 
 pub take_row-requires : goal.take_row-requires
 take_row-requires c =
-    let (X, S, τ) = c.requires in
+    let (X, S, τ) = c.requires.tree in
     (X, S, one_letter τ (c.loop-c.invariant X S τ) c.loop-c-test.true c.letter-x.ensures.is)
 
 pub next_sibling-c-requires : goal.next_sibling-c-requires
 next_sibling-c-requires c =
-    let (X, S, τ) = c.requires in
+    let (X, S, τ) = c.requires.tree in
     state_row τ (row_child τ (c.loop-c.invariant X S τ) c.loop-c-test.true).inside
 
 pub loop-c-smaller : goal.loop-c-smaller
 loop-c-smaller c =
-    let (X, S, τ) = c.requires in
+    let (X, S, τ) = c.requires.tree in
     rw c.next_sibling-c.ensures.is (left_less τ (row_child τ (c.loop-c.invariant X S τ) c.loop-c-test.true))
 
 pub loop-c-preserved : goal.loop-c-preserved
